@@ -1,0 +1,54 @@
+use mathlib.Core.Path.{refl, sym, _∙_}
+use Rattle.tokens.proofs.DoorLaws.{ready}
+use borrow.Author.Needs.{needs}
+use Rattle.tokens.proofs.door.prepare.Statement.{statement}
+use Rattle.tokens.proofs.door.prepare.Tie as tie
+
+examine-requires : tie.Need-examine-requires
+examine-requires c κs = search needs
+
+enum-known-at : tie.Need-enum-known-at
+enum-known-at c = search needs
+
+enum-known-count : tie.Need-enum-known-count
+enum-known-count c = search needs
+
+enum-known-at-2 : tie.Need-enum-known-at-2
+enum-known-at-2 c = search needs
+
+enum-known-count-2 : tie.Need-enum-known-count-2
+enum-known-count-2 c = search needs
+
+keep-requires : tie.Need-keep-requires
+keep-requires c κs = ready (c .before .before .before .before .before .before .before .before .args .text .now) (c .before .before .before .before .before .before .before .before .args .tokens .now) _ _ (sym (c .before .before .before .before .examine .ensures) ∙ c .before .before .count2 .given .1) .few
+
+returns : tie.Need-returns
+returns c = record { answer = sym (c .before .at .given .1) ∙ c .before .before .before .examine .ensures; list = refl }
+
+returns-2 : tie.Need-returns-2
+returns-2 c = record { answer = sym (c .before .count .given .1) ∙ c .before .before .before .examine .ensures; list = refl }
+
+returns-3 : tie.Need-returns-3
+returns-3 c = record { answer = sym (c .before .at2 .given .1) ∙ c .before .before .before .examine .ensures; list = refl }
+
+same-length : tie.Need-same-length
+same-length c = search needs
+
+returns-4 : tie.Need-returns-4
+returns-4 c = record { answer = sym (c .before .before .before .before .before .count2 .given .1) ∙ c .before .before .before .before .before .before .before .examine .ensures; list = c .before .before .keep .ensures }
+
+pub prepare-spec : {M : Type 1} → statement M
+prepare-spec =
+    tie.close
+    (tie.spec
+    examine-requires
+    enum-known-at
+    enum-known-count
+    enum-known-at-2
+    enum-known-count-2
+    keep-requires
+    returns
+    returns-2
+    returns-3
+    same-length
+    returns-4)

@@ -1,0 +1,41 @@
+-- Bytes of a text: texts written out, equality byte for byte, hex digits and their worth.
+use Prim.Native.Nat.{ℕ, _+_, _-_, _*_}
+use Prim.Native.String.{String}
+use Prim.Native.Char.{code}
+use mathlib.Core.Bool.{Bool, true, false, cond, _&&_, _||_}
+use mathlib.Core.List.{List, [], _∷_}
+use lib.Dec.{leb, eqb}
+
+-- the bytes of a text of ASCII characters
+unfoldable pub bytes : String → List ℕ
+bytes String.[] = []
+bytes (String._∷_ c s) = code c ∷ bytes s
+
+-- equal byte for byte
+unfoldable pub same : List ℕ → List ℕ → Bool
+same [] [] = true
+same [] (b ∷ bs) = false
+same (a ∷ ps) [] = false
+same (a ∷ ps) (b ∷ bs) = eqb a b && same ps bs
+
+-- c stands between a and b, both included
+abbrev pub between : ℕ → ℕ → ℕ → Bool
+between a b c = leb a c && leb c b
+
+-- a hex digit of either case: 0 to 9, a to f, A to F
+unfoldable pub isHex : ℕ → Bool
+isHex c = between 48 57 c || between 97 102 c || between 65 70 c
+
+-- what a hex digit is worth; any other byte 0
+unfoldable pub digit : ℕ → ℕ
+digit c = cond (between 48 57 c) (c - 48) (cond (between 97 102 c) (c - 87) (cond (between 65 70 c) (c - 55) 0))
+
+-- every byte is a hex digit
+unfoldable pub allHex : List ℕ → Bool
+allHex [] = true
+allHex (c ∷ cs) = isHex c && allHex cs
+
+-- the number that digits write after a number n, to the base 16
+unfoldable pub valueAfter : ℕ → List ℕ → ℕ
+valueAfter n [] = n
+valueAfter n (c ∷ cs) = valueAfter (n * 16 + digit c) cs

@@ -1,0 +1,11 @@
+-- What the promises of the token layer mean, in the order of document 01. A reader has to believe these files and nothing else of the crate.
+pub mod Kind
+pub mod Byte
+pub mod Name
+pub mod Literal
+pub mod Push
+pub mod Token
+pub mod WellFormed
+pub mod Kept
+pub mod Door
+pub mod Table

@@ -1,0 +1,77 @@
+-- A token as the grammar sees it, and how the lent words hold it: four a token, kind, start, end, extra.
+use Prim.Native.Nat.{ℕ, _+_, _-_, _*_, _/_, _≤_}
+use mathlib.Core.Path.{_≡_}
+use mathlib.Core.List.{List, [], map}
+use mathlib.Core.Bool.{cond}
+use lib.ListN.{length, getD, take, drop}
+use lib.Dec.{ltb}
+use Rattle.tokens.specs.Kind.{Eof}
+
+-- all that a rule may look at
+pub record Token : Type 0 where
+  pub kind : ℕ
+  -- its bytes
+  pub text : List ℕ
+  pub extra : ℕ
+
+-- what stands past the end of every list
+abbrev pub eofToken : Token
+eofToken = record { kind = Eof; text = []; extra = 0 }
+
+-- how many tokens the words hold
+abbrev pub tokenCount : List ℕ → ℕ
+tokenCount words = length words / 4
+
+-- the fields of token number i, of the lent list; past the end 0
+abbrev pub kindOf : List ℕ → ℕ → ℕ
+kindOf words i = getD words (i * 4) 0
+
+abbrev pub startOf : List ℕ → ℕ → ℕ
+startOf words i = getD words (i * 4 + 1) 0
+
+abbrev pub endOf : List ℕ → ℕ → ℕ
+endOf words i = getD words (i * 4 + 2) 0
+
+abbrev pub extraOf : List ℕ → ℕ → ℕ
+extraOf words i = getD words (i * 4 + 3) 0
+
+-- the bytes of a text from one place up to another
+abbrev pub part : List ℕ → ℕ → ℕ → List ℕ
+part text start end = take (end - start) (drop start text)
+
+-- token number i
+unfoldable pub tokenOf : List ℕ → List ℕ → ℕ → Token
+tokenOf text words i = record { kind = kindOf words i; text = part text (startOf words i) (endOf words i); extra = extraOf words i }
+
+-- the view: the tokens whose numbers the kept list holds, in its order
+unfoldable pub view : List ℕ → List ℕ → List ℕ → List Token
+view text words kept = map (tokenOf text words) kept
+
+-- the token at a place of a view, past its end an Eof
+abbrev pub tokenAt : List Token → ℕ → Token
+tokenAt tokens p = getD tokens p eofToken
+
+-- word j of the token at place p of the kept list, past its end 0: the kind (Eof there), the start, the end, the extra
+unfoldable pub fieldAt : ℕ → List ℕ → List ℕ → ℕ → ℕ
+fieldAt j words kept p = cond (ltb p (length kept)) (getD words (getD kept p 0 * 4 + j) 0) 0
+
+abbrev pub kindAt : List ℕ → List ℕ → ℕ → ℕ
+kindAt = fieldAt 0
+
+-- a kind read at a place, and the bound by which a kind that is not Eof's lies inside the kept list
+pub record KindAt (words kept : List ℕ) (p r : ℕ) : Type 0 where
+  pub is : r ≡ kindAt words kept p
+  pub inside : r ≤ 4294967295 * (length kept - p)
+
+abbrev pub startAt : List ℕ → List ℕ → ℕ → ℕ
+startAt = fieldAt 1
+
+abbrev pub endAt : List ℕ → List ℕ → ℕ → ℕ
+endAt = fieldAt 2
+
+abbrev pub extraAt : List ℕ → List ℕ → ℕ → ℕ
+extraAt = fieldAt 3
+
+-- the bytes of the token at place p of the kept list
+abbrev pub textAt : List ℕ → List ℕ → List ℕ → ℕ → List ℕ
+textAt text words kept p = part text (startAt words kept p) (endAt words kept p)

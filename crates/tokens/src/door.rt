@@ -1,0 +1,223 @@
+// The door: refusals 30, 35 and 31, in that order, before anything lent is written; then the kept list.
+use crate::literal::is_literal;
+use crate::table::put_word;
+use crate::token::part_of;
+ghost use mathlib.Core.Path.{_≡_};
+ghost use Prim.Native.Nat.{_<_, _≤_};
+ghost use lib.ListN.{length};
+ghost use lib.Seq.{sets};
+ghost use Rattle.tokens.specs.Token.{tokenCount};
+ghost use Rattle.tokens.specs.WellFormed.{rangeGood, eofGood, textGood, extraGood, contentsGood, wholeGood, goodAfter, firstBad};
+ghost use Rattle.tokens.specs.Kept.{dropped, keptOf};
+ghost use Rattle.tokens.specs.Door.{door, Prepared};
+
+// What the door answers: a refusal with its cursor, or the kept count.
+pub enum Door {
+    // 30: the first bad token's number, or 0 for the whole list.
+    NotWellFormed(usize),
+    // 35: the kept count.
+    KeptTooShort(usize),
+    // 31: the start.
+    StartOutside(usize),
+    // Let through: the kept count.
+    Ready(usize),
+}
+
+// start ≤ end ≤ text length; start at or after the previous end.
+fn range_good(size: usize, prev: u32, start: u32, end: u32) -> bool
+    ensures { λ r. ⌜ r ≡ rangeGood size prev start end ⌝ }
+{
+    if start < prev {
+        return false;
+    }
+    if end < start {
+        return false;
+    }
+    end as usize <= size
+}
+
+// The last token is Eof and no other is.
+fn eof_good(last: bool, kind: u32) -> bool
+    ensures { λ r. ⌜ r ≡ eofGood last kind ⌝ }
+{
+    if last { kind == 0 } else { kind != 0 }
+}
+
+// Ident and Label not empty; a Literal's text is a literal.
+fn text_good(kind: u32, text: &[u8]) -> bool
+    ensures { λ r. ⌜ r ≡ textGood kind (now (text .entry)) ⌝ }
+{
+    if kind == 38 {
+        return 0 < text.len();
+    }
+    if kind == 39 {
+        return 0 < text.len();
+    }
+    if kind == 40 {
+        return is_literal(text);
+    }
+    true
+}
+
+// The opcode byte for Opcode, any number for Num, else 0.
+fn extra_good(kind: u32, extra: u32) -> bool
+    ensures { λ r. ⌜ r ≡ extraGood kind extra ⌝ }
+{
+    if kind == 41 {
+        return extra <= 255;
+    }
+    if kind == 42 {
+        return true;
+    }
+    extra == 0
+}
+
+// Text and extra of token number i, whose kind and range are known.
+fn contents_good(text: &[u8], kind: u32, start: u32, end: u32, extra: u32) -> bool
+    ensures { λ r. ⌜ r ≡ contentsGood (now (text .entry)) kind start end extra ⌝ }
+{
+    let part = part_of(text, start as usize, end as usize);
+    if !text_good(kind, part) {
+        return false;
+    }
+    extra_good(kind, extra)
+}
+
+// Token number i is as it should be, where the one before it ends at prev.
+fn token_good(text: &[u8], tokens: &[u32], prev: u32, i: usize) -> bool
+    requires { ⌜ i < tokenCount (now tokens) ⌝ }
+    ensures { λ r. ⌜ r ≡ goodAfter (now (text .entry)) (now (tokens .entry)) prev i ⌝ }
+{
+    let kind = tokens[i * 4];
+    let start = tokens[i * 4 + 1];
+    let end = tokens[i * 4 + 2];
+    let extra = tokens[i * 4 + 3];
+    if 46 <= kind {
+        return false;
+    }
+    if !range_good(text.len(), prev, start, end) {
+        return false;
+    }
+    let last = i + 1 == tokens.len() / 4;
+    if !eof_good(last, kind) {
+        return false;
+    }
+    contents_good(text, kind, start, end, extra)
+}
+
+// The first bad token's number; the number of tokens if none is bad.
+fn first_bad(text: &[u8], tokens: &[u32]) -> usize
+    ensures { λ r. ⌜ r ≡ firstBad (now (text .entry)) (now (tokens .entry)) ⌝ }
+{
+    let n = tokens.len() / 4;
+    let mut prev: u32 = 0;
+    let mut i = 0;
+    while i < n {
+        if !token_good(text, tokens, prev, i) {
+            return i;
+        }
+        prev = tokens[i * 4 + 2];
+        i += 1;
+    }
+    i
+}
+
+// The tests on the whole list.
+fn whole_good(text: &[u8], tokens: &[u32]) -> bool
+    ensures { λ r. ⌜ r ≡ wholeGood (now (text .entry)) (now (tokens .entry)) ⌝ }
+{
+    if 1048576 < text.len() {
+        return false;
+    }
+    if tokens.len() % 4 != 0 {
+        return false;
+    }
+    let n = tokens.len() / 4;
+    if n == 0 {
+        return false;
+    }
+    n <= 65536
+}
+
+// Whitespace and Comment are dropped.
+fn is_dropped(kind: u32) -> bool
+    ensures { λ r. ⌜ r ≡ dropped kind ⌝ }
+{
+    if kind == 1 {
+        return true;
+    }
+    kind == 2
+}
+
+// How many tokens are kept: known before anything is written.
+fn count_kept(tokens: &[u32]) -> usize
+    ensures { λ r. ⌜ r ≡ length (keptOf (now (tokens .entry))) ⌝ }
+{
+    let n = tokens.len() / 4;
+    let mut count = 0;
+    let mut i = 0;
+    while i < n {
+        if is_dropped(tokens[i * 4]) {
+            i += 1;
+            continue;
+        }
+        count += 1;
+        i += 1;
+    }
+    count
+}
+
+// Writes the kept list; its words beyond are untouched.
+fn keep(tokens: &[u32], kept: &mut [u32])
+    requires { ⌜ tokenCount (now tokens) ≤ 65536 ⌝ }
+    ensures { λ _. ⌜ now (kept .exit) ≡ sets (now (kept .entry)) 0 (keptOf (now (tokens .entry))) ⌝ }
+{
+    let n = tokens.len() / 4;
+    let mut m = 0;
+    let mut i = 0;
+    while i < n {
+        if is_dropped(tokens[i * 4]) {
+            i += 1;
+            continue;
+        }
+        put_word(kept, m, i as u32);
+        m += 1;
+        i += 1;
+    }
+}
+
+// The door's answer for a kept list of `room` words; nothing is written.
+fn examine(text: &[u8], tokens: &[u32], start: usize, room: usize) -> Door
+    ensures { λ r. ⌜ r ≡ door (now (text .entry)) (now (tokens .entry)) start room ⌝ }
+{
+    if !whole_good(text, tokens) {
+        return Door::NotWellFormed(0);
+    }
+    let bad = first_bad(text, tokens);
+    if bad < tokens.len() / 4 {
+        return Door::NotWellFormed(bad);
+    }
+    let count = count_kept(tokens);
+    if room < count {
+        return Door::KeptTooShort(count);
+    }
+    if count <= start {
+        return Door::StartOutside(start);
+    }
+    Door::Ready(count)
+}
+
+// Tests what is lent, and writes the kept list only where all of it is let through. A file is read from start 0.
+pub fn prepare(text: &[u8], tokens: &[u32], start: usize, kept: &mut [u32]) -> Door
+    ensures { λ r. ⌜ Prepared (now (text .entry)) (now (tokens .entry)) start (now (kept .entry)) r (now (kept .exit)) ⌝ }
+{
+    match examine(text, tokens, start, kept.len()) {
+        Door::NotWellFormed(at) => Door::NotWellFormed(at),
+        Door::KeptTooShort(count) => Door::KeptTooShort(count),
+        Door::StartOutside(at) => Door::StartOutside(at),
+        Door::Ready(count) => {
+            keep(tokens, kept);
+            Door::Ready(count)
+        }
+    }
+}

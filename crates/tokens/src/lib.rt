@@ -1,0 +1,31 @@
+// The token layer: what is lent is tested at the door, tokens are read by their place, records are written where they fit.
+// Nothing here asks anything of its caller.
+pub mod door;
+pub mod literal;
+pub mod name;
+pub mod push;
+pub mod table;
+pub mod token;
+
+pub use door::Door;
+pub use door::prepare;
+pub use literal::all_hex;
+pub use literal::is_hex;
+pub use literal::is_literal;
+pub use literal::significant_bytes;
+pub use name::is_reserved;
+pub use name::same_name;
+pub use push::is_value_push;
+pub use push::push_overflows;
+pub use push::push_size;
+pub use table::clear;
+pub use table::put_record;
+pub use table::put_word;
+pub use table::start_of;
+pub use token::end_at;
+pub use token::extra_at;
+pub use token::kind_at;
+pub use token::part_of;
+pub use token::start_at;
+pub use token::text_at;
+pub use token::word_at;

@@ -1,0 +1,156 @@
+// Literals: hex digits, their worth, and a literal's significant bytes.
+ghost use mathlib.Core.Path.{_≡_};
+ghost use Prim.Native.Nat.{_-_, _/_, _%_, _^_, _≤_, min, max};
+ghost use lib.ListN.{length, drop};
+ghost use Rattle.tokens.specs.Byte.{isHex, digit, allHex, valueAfter};
+ghost use Rattle.tokens.specs.Literal.{isLiteral, literalValue, significant};
+
+// A hex digit of either case.
+pub fn is_hex(c: u8) -> bool
+    ensures { λ r. ⌜ r ≡ isHex c ⌝ }
+{
+    if c < 48 {
+        return false;
+    }
+    if c <= 57 {
+        return true;
+    }
+    if c < 65 {
+        return false;
+    }
+    if c <= 70 {
+        return true;
+    }
+    if c < 97 {
+        return false;
+    }
+    c <= 102
+}
+
+// What a hex digit is worth; any other byte 0.
+fn digit_value(c: u8) -> u64
+    ensures { λ r. ⌜ r ≡ digit c ⌝ }
+{
+    let d = c as u64;
+    if d < 48 {
+        return 0;
+    }
+    if d <= 57 {
+        return d - 48;
+    }
+    if d < 65 {
+        return 0;
+    }
+    if d <= 70 {
+        return d - 55;
+    }
+    if d < 97 {
+        return 0;
+    }
+    if d <= 102 {
+        return d - 87;
+    }
+    0
+}
+
+// Every byte is a hex digit.
+pub fn all_hex(name: &[u8]) -> bool
+    ensures { λ r. ⌜ r ≡ allHex (now (name .entry)) ⌝ }
+{
+    let mut i = 0;
+    while i < name.len() {
+        if !is_hex(name[i]) {
+            return false;
+        }
+        i += 1;
+    }
+    true
+}
+
+// 0x and 1 to 64 hex digits.
+pub fn is_literal(text: &[u8]) -> bool
+    ensures { λ r. ⌜ r ≡ isLiteral (now (text .entry)) ⌝ }
+{
+    let n = text.len();
+    if n < 3 {
+        return false;
+    }
+    if 66 < n {
+        return false;
+    }
+    if text[0] != b'0' {
+        return false;
+    }
+    if text[1] != b'x' {
+        return false;
+    }
+    all_hex(&text[2..])
+}
+
+// The number that at most 16 digits write: a quarter of a literal.
+fn quarter(digits: &[u8]) -> u64
+    requires { ⌜ length (now digits) ≤ 16 ⌝ }
+    ensures { λ r. ⌜ r ≡ valueAfter 0 (now (digits .entry)) ⌝ }
+{
+    let mut n: u64 = 0;
+    let mut i = 0;
+    while i < digits.len() {
+        let d = digit_value(digits[i]);
+        n = n * 16 + d;
+        i += 1;
+    }
+    n
+}
+
+// The significant bytes of a quarter, from its leading zeros; zero has one byte too.
+fn bytes_of(quarter: u64) -> usize
+    ensures { λ r. ⌜ r ≡ significant quarter ⌝ }
+{
+    if quarter == 0 {
+        return 1;
+    }
+    let zeros = u64::leading_zeros(quarter) as usize;
+    (64 - zeros + 7) / 8
+}
+
+// The place `back` digits before the end of a text, or where its digits begin.
+fn before_end(end: usize, back: usize) -> usize
+    ensures { λ r. ⌜ r ≡ min end (max 2 (end - back)) ⌝ }
+{
+    if end < 2 {
+        return end;
+    }
+    if end - 2 < back {
+        return 2;
+    }
+    end - back
+}
+
+// The quarter of a literal that has `back` digits behind it.
+fn quarter_at(literal: &[u8], back: usize) -> u64
+    ensures { λ r. ⌜ r ≡ valueAfter 0 (drop 2 (now (literal .entry))) / 16 ^ back % 2 ^ 64 ⌝ }
+{
+    let e = before_end(literal.len(), back);
+    let a = before_end(e, 16);
+    quarter(&literal[a..e])
+}
+
+// A literal's significant bytes. Its last 64 digits are four quarters of 64 bits: the highest that is not zero decides, by its leading zeros, and all
+// bytes behind it are significant.
+pub fn significant_bytes(literal: &[u8]) -> usize
+    ensures { λ r. ⌜ r ≡ significant (literalValue (now (literal .entry))) ⌝ }
+{
+    let highest = quarter_at(literal, 48);
+    if highest != 0 {
+        return bytes_of(highest) + 24;
+    }
+    let third = quarter_at(literal, 32);
+    if third != 0 {
+        return bytes_of(third) + 16;
+    }
+    let second = quarter_at(literal, 16);
+    if second != 0 {
+        return bytes_of(second) + 8;
+    }
+    bytes_of(quarter_at(literal, 0))
+}

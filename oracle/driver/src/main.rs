@@ -1,0 +1,121 @@
+//! Runs the unchanged Rust parser on cases and writes its answers.
+//!
+//! Cases on standard input, answers on standard output, a line each, in the format of
+//! docs/CASES.md. Beside the answers of document 01 there are
+//!
+//! * `PANIC`: the Rust panicked;
+//! * `X_name`: the Rust refused for a reason that has no number in document 01, or read a
+//!   decorator (`X_Decorator`), or can't hold one of the tokens (`X_CannotHold`);
+//! * `X_NotACase`, `X_TooLarge`: the line is no case, or asks for more than the driver lends;
+//! * `X_DriverLost`: what the driver derives doesn't fit the nodes. It never should.
+//!
+//! `driver --unformed` runs the Rust on lists that are not well formed too, instead of answering 30,
+//! and doesn't look at the length of the kept list. `driver --raw` prints the Rust's own result, its
+//! nodes or its error, as Rust shows it; a span's start is the token's place.
+//!
+//! What the nodes don't hold the driver derives: 30, 31, 35, 32 to 34, the kept list, the ranges
+//! that are wider than the nodes' spans, imports' places, the arguments of calls, the forms of a
+//! builtin's arguments, record numbers and the plain length. docs/DIFFERENCES.md says so.
+
+mod case;
+mod nodes;
+mod tokens;
+
+use case::{Case, Lent};
+use std::io::{self, BufRead, Write};
+
+/// What the options ask for.
+#[derive(Clone, Copy, Default)]
+struct Ways {
+    unformed: bool,
+    raw: bool,
+}
+
+fn main() {
+    let mut ways = Ways::default();
+    for option in std::env::args().skip(1) {
+        match option.as_str() {
+            "--unformed" => ways.unformed = true,
+            "--raw" => ways.raw = true,
+            _ => {
+                println!("usage: driver [--unformed] [--raw] < cases > answers (docs/CASES.md)");
+                std::process::exit(if option == "--help" { 0 } else { 2 });
+            }
+        }
+    }
+    // A panic is an answer, so its message isn't wanted.
+    std::panic::set_hook(Box::new(|_| {}));
+    let worker = std::thread::Builder::new()
+        .stack_size(256 << 20)
+        .spawn(move || serve(ways))
+        .expect("a thread");
+    if !matches!(worker.join(), Ok(Ok(()))) {
+        std::process::exit(1);
+    }
+}
+
+fn serve(ways: Ways) -> io::Result<()> {
+    let mut input = io::BufReader::with_capacity(1 << 20, io::stdin().lock());
+    let mut output = io::BufWriter::with_capacity(1 << 20, io::stdout().lock());
+    let mut line = Vec::new();
+    loop {
+        line.clear();
+        if input.read_until(b'\n', &mut line)? == 0 {
+            return output.flush();
+        }
+        if line.last() == Some(&b'\n') {
+            line.pop();
+        }
+        let answer = match Case::read(&line) {
+            Ok(case) => answer(&case, ways),
+            Err(why) => why.to_string(),
+        };
+        output.write_all(answer.as_bytes())?;
+        output.write_all(b"\n")?;
+    }
+}
+
+fn answer(case: &Case, ways: Ways) -> String {
+    let mut lent = Lent::new(case);
+
+    // The door: 30, 35, 31, in this order, with nothing lent changed.
+    if !ways.unformed {
+        if let Some(bad) = tokens::first_bad(&case.text, &case.words) {
+            return lent.show([30, bad as u32, 0, 0, 0]);
+        }
+    }
+    let kept = tokens::kept(&case.words);
+    if !ways.unformed && case.kept < kept.len() {
+        return lent.show([35, kept.len() as u32, 0, 0, 0]);
+    }
+    if !ways.unformed && case.body && case.start as usize >= kept.len() {
+        return lent.show([31, case.start, 0, 0, 0]);
+    }
+
+    // Only now may a token be out of reach of the Rust.
+    let list = match tokens::build(&case.text, &case.words) {
+        Some(list) => list,
+        None => return "X_CannotHold".to_string(),
+    };
+    if ways.raw {
+        let shown = std::panic::catch_unwind(|| nodes::raw(list, case.body, case.start as usize));
+        return shown.unwrap_or_else(|_| "PANIC".to_string());
+    }
+    lent.write_kept(&kept);
+    let read = std::panic::catch_unwind(|| {
+        if case.body {
+            nodes::read_body(list, case.start as usize)
+        } else {
+            nodes::read_file(list)
+        }
+    });
+    match read {
+        Err(_) => "PANIC".to_string(),
+        Ok(Err(nodes::No::Number(number, cursor))) => {
+            lent.zero_tables();
+            lent.show([number, cursor as u32, 0, 0, 0])
+        }
+        Ok(Err(nodes::No::Other(name))) => format!("X_{name}"),
+        Ok(Ok(found)) => lent.settle(case, &found),
+    }
+}

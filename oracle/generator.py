@@ -1,0 +1,649 @@
+"""Cases, seeded. `oracle/generate` prints them, `oracle/compare` runs them.
+
+Families:
+  bodies      bodies that follow the grammar, every construct, white space and comments between
+  files       files that follow the grammar, every definition
+  mutations   both, with tokens dropped, doubled, swapped, replaced or put in
+  exhaustive  all short lists over reduced alphabets, in many surroundings, shortest first; seed s and
+              count n are the cases from s * n on, so that seeds 0, 1, 2 .. walk through them
+  pushes      every push size with every literal size, leading zeros too
+  illformed   lists that are not well formed, in every way of document 01, and near misses
+  tables      tables exactly full, a word or a record short, ragged, empty; the kept list one short
+  starts      bodies read from anywhere
+  odd         what docs/DIFFERENCES.md lists: repeated names, Pound, odd types, other digits, bytes that
+              are not UTF-8
+  limits      the largest texts and lists, and one more (few cases, long lines)
+"""
+import random
+
+import notation
+import rules
+
+T = notation.token
+EOF = (rules.EOF, b"", 0)
+CLOSE_PAREN, OPEN_PAREN, COMMA = T(")"), T("("), T(",")
+
+RESERVED = ["uint256", "bool", "address", "bytes32", "uint", "int", "int8", "string", "bytes", "bytes1",
+            "uint8", "int256"]
+NEARLY_RESERVED = ["uint7", "bytes33", "uint08", "int264", "bytes0", "Bool", "uint2560", "addres", "addresss",
+                   "in", "uin", "byte", "uint0", "bytes01", "bytes320", "bytes3_", "int 8", "strings"]
+PLAIN = ["a", "b", "c", "x", "y", "F", "G", "abc", "dead", "beef", "M1", "_", "go", "amount", "0", "1f"]
+TYPES = ["address", "bool", "string", "bytes", "uint", "int", "uint256", "uint8", "int128", "bytes32", "bytes4"]
+STRINGS = ['"s"', '""', '"f(uint256)"', '"calldata"']
+OPCODES = [0x00, 0x01, 0x15, 0x35, 0x52, 0x54, 0x56, 0x57, 0x5b, 0x5f, 0x80, 0x90, 0xa0, 0xf3, 0xfd, 0xff, 0x0c, 0x5e]
+FIXED = [T(w) for w in notation.FIXED if w != "EOF"]
+
+
+class Maker:
+    """Makes token lists with one source of chance."""
+
+    def __init__(self, seed):
+        self.r = random.Random(seed)
+        self.serial = 0
+
+    # Tokens.
+
+    def some(self, *choices):
+        return self.r.choice(choices)
+
+    def likely(self, p):
+        return self.r.random() < p
+
+    def ident(self, tested=False):
+        """A name; one that is tested is no reserved one."""
+        roll = self.r.random()
+        if roll < 0.12 and not tested:
+            word = self.r.choice(RESERVED)
+        elif roll < 0.2:
+            word = self.r.choice(NEARLY_RESERVED)
+        else:
+            word = self.r.choice(PLAIN)
+        return rules.IDENT, word.encode(), 0
+
+    def fresh(self):
+        """A name that isn't used yet."""
+        self.serial += 1
+        return rules.IDENT, b"%s%d" % (self.r.choice([b"m", b"M", b"z", b"_"]), self.serial), 0
+
+    def literal(self, most=32):
+        """A literal of at most so many significant bytes, leading zeros or not."""
+        nibbles = self.r.choice([0, 1, 2, 2, 2, 3, 4, self.r.randint(0, 64)])
+        return self.literal_of(min(nibbles, 2 * most))
+
+    def literal_of(self, nibbles, zeros=None):
+        """A literal of exactly so many significant digits."""
+        digits = "".join(self.r.choice("0123456789abcdefABCDEF") for _ in range(nibbles))
+        if nibbles:
+            digits = self.r.choice("123456789abcdefABCDEF") + digits[1:]
+        if zeros is None:
+            zeros = self.r.choice([0, 0, 1, self.r.randint(0, 64)])
+        zeros = max(min(zeros, 64 - nibbles), 0 if nibbles else 1)
+        return rules.LITERAL, b"0x" + b"0" * zeros + digits.encode(), 0
+
+    def opcode(self, byte=None):
+        if byte is None:
+            byte = self.r.choice(OPCODES)
+        return rules.OPCODE, b"op", byte
+
+    def push(self):
+        return self.r.choice([0x60, 0x61, 0x62, 0x63, 0x73, 0x7f, self.r.randint(0x60, 0x7f)])
+
+    def label(self):
+        return rules.LABEL, self.r.choice([b"l", b"go", b"end", b"uint256"]), 0
+
+    def builtin(self):
+        return rules.BUILTIN, self.r.choice([b"__FUNC_SIG", b"__tablesize", b"", b"f"]), 0
+
+    def string(self):
+        return T(self.r.choice(STRINGS))
+
+    def type(self):
+        return rules.PRIMITIVE, self.r.choice(TYPES).encode(), 0
+
+    def num(self):
+        return rules.NUM, b"7", self.r.choice([0, 1, 2, 7, 4294967295])
+
+    def location(self):
+        return T(self.r.choice(["calldata", "memory", "storage"]))
+
+    def any_token(self):
+        """A token of any kind but Eof."""
+        roll = self.r.random()
+        if roll < 0.45:
+            return self.r.choice(FIXED)
+        make = self.r.choice([self.ident, self.ident, self.literal, self.opcode, self.label, self.builtin,
+                              self.string, self.type, self.num, lambda: self.opcode(self.push()), self.location])
+        return make()
+
+    # Lists.
+
+    def maybe_comma(self):
+        return [COMMA] if self.likely(0.6) else []
+
+    def count(self):
+        return self.r.choice([0, 1, 1, 2, 2, 3, 4])
+
+    def call_list(self):
+        out = [OPEN_PAREN]
+        for _ in range(self.count()):
+            out += self.some([self.literal()], [self.ident()], [T("calldata")], [T("<"), self.ident(), T(">")])
+            out += self.maybe_comma()
+        return out + [CLOSE_PAREN]
+
+    def untyped_list(self, builtin):
+        out = [OPEN_PAREN]
+        odd = False
+        for _ in range(self.count()):
+            if builtin and self.likely(0.4):
+                out.append(self.some(self.string(), self.literal()))
+            else:
+                if self.likely(0.2):
+                    out.append(self.location())
+                out.append(self.ident(tested=odd))
+                odd = not odd
+            comma = self.maybe_comma()
+            if comma:
+                odd = False
+            out += comma
+        return out + [CLOSE_PAREN]
+
+    def typed_list(self, indexes=False):
+        out = [OPEN_PAREN]
+        for _ in range(self.count()):
+            out.append(self.type())
+            if indexes and self.likely(0.4):
+                out.append(T("indexed"))
+            if self.likely(0.25):
+                out.append(self.location())
+            named = self.likely(0.7)
+            if named:
+                out.append(self.ident(tested=True))
+            # Without a name and a Comma the next type would stand in a name's place.
+            out += self.maybe_comma() if named else [COMMA]
+        return out + [CLOSE_PAREN]
+
+    # Bodies.
+
+    def item(self, in_label):
+        roll = self.r.random()
+        if roll < 0.15:
+            return [self.literal()]
+        if roll < 0.3:
+            return [self.opcode()]
+        if roll < 0.5:
+            byte = self.push()
+            if in_label:
+                return [self.opcode(byte)] + ([self.literal()] if self.likely(0.6) else [])
+            return [self.opcode(byte), self.literal(byte - 0x5f)]
+        if roll < 0.65:
+            return [self.ident()]
+        if roll < 0.8:
+            return [self.ident()] + self.call_list()
+        if roll < 0.86:
+            return [T("["), self.ident(), T("]")]
+        if roll < 0.92:
+            return [T("<"), self.ident(), T(">")]
+        return [self.builtin()] + self.untyped_list(builtin=True)
+
+    def body(self):
+        most = self.r.choice([0, 1, 2, 3, 4, 6, 6, 15])
+        out = [T("{")]
+        for _ in range(self.r.randint(0, most)):
+            out += self.item(in_label=False)
+        for _ in range(self.r.choice([0, 0, 1, 1, 2, 3])):
+            out += [self.label(), T(":")]
+            for _ in range(self.r.randint(0, most)):
+                out += self.item(in_label=True)
+        return out + [T("}")]
+
+    def plain_body(self):
+        """A body whose plain length is a number."""
+        out = [T("{")]
+        for _ in range(self.r.randint(0, 5)):
+            out += self.plain_item(False)
+        for _ in range(self.r.choice([0, 0, 1, 2])):
+            out += [self.label(), T(":")]
+            for _ in range(self.r.randint(0, 4)):
+                out += self.plain_item(True)
+        return out + [T("}")]
+
+    def plain_item(self, in_label):
+        byte = self.push()
+        if in_label:
+            return self.some([self.literal()], [self.opcode()], [self.ident()], [self.opcode(byte)],
+                             [self.opcode(byte), self.literal()])
+        return self.some([self.literal()], [self.opcode()], [self.ident()],
+                         [self.opcode(byte), self.literal(byte - 0x5f)])
+
+    # Files.
+
+    def definition(self):
+        kind = self.r.choice(["include", "function", "event", "constant", "error", "macro", "macro", "macro",
+                              "fn", "test", "jumptable", "jumptable__packed", "table"])
+        if kind == "include":
+            return [T("#include"), self.string()]
+        out = [T("#define"), T(kind)]
+        if kind in ("macro", "fn", "test"):
+            out.append(self.fresh())
+            out += self.untyped_list(builtin=False) + [T("=")]
+            if self.likely(0.7):
+                out += [T("takes"), OPEN_PAREN, self.num(), CLOSE_PAREN]
+            if self.likely(0.7):
+                out += [T("returns"), OPEN_PAREN, self.num(), CLOSE_PAREN]
+            return out + self.body()
+        out.append(self.ident())
+        if kind == "function":
+            out += self.typed_list()
+            out += [T(self.r.choice(["view", "pure", "payable", "nonpayable"])), T("returns")]
+            return out + self.typed_list()
+        if kind in ("event", "error"):
+            return out + self.typed_list(indexes=kind == "event")
+        if kind == "constant":
+            return out + [T("="), self.some(T("FREE"), self.literal())]
+        for word in "()=":
+            if self.likely(0.7):
+                out.append(T(word))
+        out.append(T("{"))
+        for _ in range(self.count()):
+            if kind == "table":
+                length = self.r.choice([1, 2, 3, 4, 64])
+                out.append((rules.IDENT, "".join(self.r.choice("0123456789abcdefABCDEF")
+                                                 for _ in range(length)).encode(), 0))
+            else:
+                out.append(self.ident())
+        return out + [T("}")]
+
+    def file(self):
+        out = []
+        for _ in range(self.r.choice([0, 1, 1, 1, 2, 2, 3, 4])):
+            out += self.definition()
+        return out
+
+    def base(self):
+        """A list that follows the grammar, without Eof: (mode, start, tokens)."""
+        if self.likely(0.5):
+            return "F", 0, self.file()
+        before = [self.any_token() for _ in range(self.r.randint(0, 4))] if self.likely(0.3) else []
+        after = [self.any_token() for _ in range(self.r.randint(0, 3))] if self.likely(0.3) else []
+        return "B", len(before), before + self.body() + after
+
+    # Cases.
+
+    def spaced(self, tokens):
+        """With white space and comments between tokens, or not."""
+        if self.likely(0.5):
+            return tokens
+        out = []
+        for token in tokens:
+            while self.likely(0.2):
+                out.append(self.some((rules.WHITESPACE, b" ", 0), (rules.COMMENT, b"// a", 0),
+                                     (rules.COMMENT, b"", 0), (rules.WHITESPACE, b"\n\t", 0)))
+            out.append(token)
+        return out
+
+    def laid_out(self, tokens, spaced=True):
+        if spaced:
+            tokens = self.spaced(tokens + [EOF])
+        else:
+            tokens = tokens + [EOF]
+        return notation.lay_out(tokens, self.some(b" ", b"", b" ", b"\n  "))
+
+    def roomy(self, mode, start, text, words):
+        """Lengths with room for all, mostly not much more."""
+        return self.lengths(mode, start, text, words,
+                            lambda width, need: need * width + self.some(0, 0, 1, width - 1, width, 3 * width))
+
+    def lengths(self, mode, start, text, words, choose):
+        kept = needs = None
+        if rules.first_bad(text, words) is None:
+            kept = rules.kept_numbers(words)
+            if mode == "F" or start < len(kept):
+                try:
+                    read = rules.read(mode, start, text, words, kept)
+                    needs = len(read.definitions), len(read.statements), len(read.arguments)
+                except rules.Refused:
+                    pass
+        if needs is None:
+            needs = self.r.randint(0, 2), self.r.randint(0, 3), self.r.randint(0, 3)
+        room = [choose(width, need) for width, need in zip((12, 8, 7), needs)]
+        if mode == "B":
+            room[0] = 0
+        count = len(words) // 4 if kept is None else len(kept)
+        return [count + self.some(0, 0, 0, 1, 4)] + room
+
+    def line(self, mode, start, tokens, spaced=True):
+        text, words = self.laid_out(tokens, spaced)
+        return notation.case_line(mode, start, self.roomy(mode, start, text, words), text, words)
+
+
+def bodies(m, seed, count):
+    for _ in range(count):
+        if m.likely(0.25):
+            yield m.line("B", 0, m.plain_body())
+        else:
+            before = [m.any_token() for _ in range(m.r.randint(0, 4))] if m.likely(0.3) else []
+            after = [m.any_token() for _ in range(m.r.randint(0, 3))] if m.likely(0.3) else []
+            yield m.line("B", len(before), before + m.body() + after)
+
+
+def files(m, seed, count):
+    for _ in range(count):
+        yield m.line("F", 0, m.file())
+
+
+def mutations(m, seed, count):
+    for _ in range(count):
+        mode, start, tokens = m.base()
+        for _ in range(m.r.choice([1, 1, 1, 2, 3])):
+            mutate(m, tokens)
+        yield m.line(mode, min(start, len(tokens)), tokens)
+
+
+def mutate(m, tokens):
+    if not tokens:
+        tokens.append(m.any_token())
+        return
+    i = m.r.randrange(len(tokens))
+    way = m.r.choice(["drop", "double", "swap", "replace", "replace", "insert", "cut"])
+    if way == "drop":
+        del tokens[i]
+    elif way == "double":
+        tokens.insert(i, tokens[i])
+    elif way == "swap":
+        j = m.r.choice([min(i + 1, len(tokens) - 1), m.r.randrange(len(tokens))])
+        tokens[i], tokens[j] = tokens[j], tokens[i]
+    elif way == "replace":
+        tokens[i] = m.any_token()
+    elif way == "insert":
+        tokens.insert(i, m.any_token())
+    else:
+        del tokens[i + 1:]
+
+
+# All short lists. A surrounding: mode, what stands before, what may stand behind, the alphabet.
+BODY = '{ } ( ) [ ] < > , : a uint256 ~l 0x01 0x0100 ADD PUSH1 @f "s" calldata %bool = # 7'
+LIST = ', a uint256 0x01 calldata memory storage "s" %bool ) ( < > indexed } ~l'
+TYPED = '%bool %uint256 a uint256 indexed calldata storage , ) ( 0x01 "s" = '
+SURROUNDINGS = [
+    ("B", "", "", BODY),
+    ("B", "{", "}", BODY),
+    ("B", "{ ~l :", "}", BODY),
+    ("B", "{ PUSH1", "}", BODY),
+    ("B", "{ F (", ") }", LIST),
+    ("B", "{ ~l : F (", ") }", LIST),
+    ("B", "{ @f (", ") }", LIST),
+    ("B", "{ @f ( a", ") }", LIST),
+    ("F", "", "", '#include #define # "s" macro constant error a = 0x01 ( ) { } [ ] // _'),
+    ("F", "#define", "", "macro fn test function event constant error jumptable jumptable__packed table a ( ) = "
+     "{ } 0x01 FREE # #define #include"),
+    ("F", "#define macro M (", ") = { }", LIST),
+    ("F", "#define macro M ( )", "{ }", "= takes returns ( ) 7 a { } 0x01 view"),
+    ("F", "#define fn M ( ) = takes ( 1 )", "{ }", "takes returns ( ) 7 a { } = , calldata"),
+    ("F", "#define function f (", ") view returns ( )", TYPED),
+    ("F", "#define function f ( ) pure returns (", ")", TYPED),
+    ("F", "#define function f ( )", "( %bool )", "view pure payable nonpayable returns ( ) = a takes"),
+    ("F", "#define event E (", ")", TYPED),
+    ("F", "#define error E (", ")", TYPED),
+    ("F", "#define jumptable T", "}", "( ) = { } a abc 0x01 , ~l"),
+    ("F", "#define jumptable__packed T {", "}", 'a g 0x01 , ~l } { "s" ADD #define'),
+    ("F", "#define table T {", "}", 'abc d g uint 0x01 , ~l } { "s" 7'),
+    ("F", "#define constant C", "", "= 0x01 FREE a ( ) #define 7"),
+    ("F", "#define macro a ( ) = { } #define", "( ) = { }", "macro fn test a b error function { } #define"),
+]
+
+
+def exhaustive(m, seed, count):
+    blocks = []
+    for mode, before, behind, alphabet in SURROUNDINGS:
+        letters = [T(w) for w in alphabet.split()]
+        first = [T(w) for w in before.split()]
+        blocks.append((mode, first, [], letters))
+        if behind:
+            blocks.append((mode, first, [T(w) for w in behind.split()], letters))
+    at, left, length = seed * count, count, 0
+    while left > 0:
+        for mode, first, last, letters in blocks:
+            size = len(letters) ** length
+            while at < size and left > 0:
+                middle, index = [], at
+                for _ in range(length):
+                    index, letter = divmod(index, len(letters))
+                    middle.append(letters[letter])
+                yield m.line(mode, 0, first + middle + last, spaced=False)
+                at += 1
+                left -= 1
+            at -= size
+            if left == 0:
+                return
+            at = max(at, 0)
+        length += 1
+
+
+def pushes(m, seed, count):
+    for i in range(count):
+        byte, nibbles = 0x5f + i % 34, i // 34 % 65
+        pair = [m.opcode(byte), m.literal_of(nibbles)]
+        tokens = m.some(pair, pair, pair, pair + [m.literal()], [m.literal()] + pair,
+                        [m.label(), T(":")] + pair, pair + [m.label(), T(":")] + pair)
+        yield m.line("B", 0, [T("{")] + tokens + [T("}")], spaced=False)
+
+
+BAD_LITERALS = [b"", b"0", b"0x", b"x1", b"0X1", b"1x1", b"0xg", b"0x1g", b"0xG1", b"0x1/", b"0x1:", b"0x@1",
+                b"0x`1", b"0x1 ", b"0x" + b"1" * 65, b"0x" + b"0" * 65, b"0x-1", b"0x\xff", b"00x1"]
+GOOD_LITERALS = [b"0x" + b"f" * 64, b"0x" + b"0" * 64, b"0xA", b"0x9aFf", b"0x0"]
+
+
+def illformed(m, seed, count):
+    for _ in range(count):
+        mode, start, tokens = m.base()
+        if m.likely(0.2):
+            mutate(m, tokens)
+        tokens = m.spaced(tokens + [EOF])
+        if m.likely(0.25) and len(tokens) > 1:
+            own = m.some(m.r.choice(BAD_LITERALS), m.r.choice(BAD_LITERALS), m.r.choice(GOOD_LITERALS))
+            tokens[m.r.randrange(len(tokens) - 1)] = (rules.LITERAL, own, 0)
+        text, words = notation.lay_out(tokens, m.some(b" ", b""))
+        for _ in range(m.r.choice([1, 1, 2])):
+            text = spoil(m, text, words)
+        if m.likely(0.03):
+            words = []
+        room = m.roomy(mode, start, text, words)
+        if m.likely(0.3):
+            room = [m.some(0, n, max(n - 1, 0), m.r.randint(0, 20)) for n in room]
+            room[1] = 0 if mode == "B" else room[1]
+        if mode == "B" and m.likely(0.2):
+            start = m.some(0, len(words) // 4, len(words) // 4 + 1, 4294967295)
+        yield notation.case_line(mode, start, room, text, words)
+
+
+def spoil(m, text, words):
+    """Breaks one rule of a well-formed list, or only nearly; gives the text."""
+    tokens = len(words) // 4
+    if tokens == 0:
+        return text
+    k = 4 * m.r.randrange(tokens)
+    last = 4 * (tokens - 1)
+    way = m.r.choice(["kind", "order", "beyond", "overlap", "last", "no-last", "early", "empty", "extra", "opcode",
+                      "ragged", "text", "text", "near"])
+    if way == "kind":
+        words[k] = m.some(46, 47, 255, 256, 4294967295, m.r.randint(46, 4294967295))
+    elif way == "order":
+        words[k + 1] = m.some(min(words[k + 2] + 1, 4294967295), len(text) + 1, 4294967295)
+    elif way == "beyond":
+        words[k + 2] = m.some(len(text) + 1, 4294967295)
+    elif way == "overlap" and k >= 4 and words[k - 2] > 0:
+        words[k + 1] = words[k - 2] - 1
+    elif way == "last":
+        words[last] = m.r.randint(1, 45)
+    elif way == "no-last":
+        del words[last:]
+    elif way == "early":
+        words[k] = rules.EOF
+        words[k + 3] = m.some(0, 0, words[k + 3])
+    elif way == "empty":
+        words[k + 2] = words[k + 1]
+        if m.likely(0.5):
+            words[k] = m.some(rules.IDENT, rules.LABEL, rules.LITERAL, rules.STR, rules.BUILTIN, rules.COMMENT)
+            words[k + 3] = 0
+    elif way == "extra":
+        words[k + 3] = m.some(1, 255, 256, 4294967295)
+    elif way == "opcode":
+        words[k] = rules.OPCODE
+        words[k + 3] = m.some(255, 256, 4294967295, 0x60)
+    elif way == "ragged":
+        if m.likely(0.5):
+            del words[-m.r.randint(1, 3):]
+        else:
+            words += [0] * m.r.randint(1, 3)
+    elif way == "text":
+        return text[:m.some(0, len(text) // 2, max(len(text) - 1, 0))]
+    elif way == "near":
+        # Still well formed: a number with any extra, an opcode with any byte, an Eof with a range.
+        if words[k] == rules.NUM:
+            words[k + 3] = 4294967295
+        elif words[k] == rules.OPCODE:
+            words[k + 3] = 255
+        words[last + 1] = max(words[last - 2], 0) if last else 0
+        words[last + 2] = max(len(text), words[last + 1])
+    return text
+
+
+def tables(m, seed, count):
+    for _ in range(count):
+        mode, start, tokens = m.base()
+        if m.likely(0.1):
+            mutate(m, tokens)
+        start = min(start, len(tokens))
+        text, words = m.laid_out(tokens)
+        tight = m.likely(0.5)
+
+        def choose(width, need):
+            exact = need * width
+            if tight and m.likely(0.6):
+                return exact
+            return max(0, m.some(exact, exact - 1, exact + 1, exact - width, exact + width - 1, exact + width,
+                                 m.r.randint(0, exact + width), 0, 1, width - 1))
+
+        room = m.lengths(mode, start, text, words, choose)
+        kept = sum(1 for k in words[0::4] if k not in (rules.WHITESPACE, rules.COMMENT))
+        room[0] = m.some(kept, kept, kept, kept + 1, kept + 7, kept - 1, 0)
+        yield notation.case_line(mode, start, room, text, words)
+
+
+def starts(m, seed, count):
+    for _ in range(count):
+        _, _, tokens = m.base()
+        if m.likely(0.3):
+            tokens = tokens + m.body()
+        if m.likely(0.3):
+            mutate(m, tokens)
+        text, words = m.laid_out(tokens)
+        kept = rules.kept_numbers(words)
+        braces = [i for i, n in enumerate(kept) if words[4 * n] == rules.OPEN_BRACE]
+        brace = m.r.choice(braces or [0])
+        start = m.some(brace, brace, brace, brace, m.r.randint(0, len(kept) + 1), m.r.randint(0, len(kept) + 1),
+                       len(kept) - 1, len(kept), 4294967295)
+        room = m.roomy("B", start, text, words)
+        if m.likely(0.1):
+            room[0] = len(kept) - 1
+        yield notation.case_line("B", start, room, text, words)
+
+
+OTHER_DIGITS = ["\u0663", "\u0967", "\uff11", "a\u0663", "\u09ea\u09ea", "\U0001d7d8"]
+NOT_DIGITS = ["\u00bd", "\u00b2", "\u2163", "g\u0663", "\u00e4"]
+ODD_TYPES = ["uint7", "uint0", "uint264", "int9", "int0", "int512", "bytes33", "bytes0", "bytes1000000", "uint08"]
+NO_TYPES = ["", "foo", "uint_", "bytesx", "Bool", "uint256[]", "\u00e4"]
+
+
+def odd(m, seed, count):
+    for _ in range(count):
+        way = m.r.choice(["names", "names", "pound", "types", "digits", "bytes"])
+        if way == "names":
+            tokens = []
+            for _ in range(m.r.randint(2, 6)):
+                tokens += [T("#define"), T(m.r.choice(["macro", "fn", "test"])), T(m.r.choice("abcd"))]
+                tokens += [OPEN_PAREN, CLOSE_PAREN, T("=")] + (m.body() if m.likely(0.2) else [T("{"), T("}")])
+                if m.likely(0.1):
+                    tokens += m.definition()
+            if m.likely(0.3):
+                mutate(m, tokens)
+        elif way == "pound":
+            tokens = m.file() + [T("#")]
+            for word in m.some("[ ]", "[ x ( ) ]", "[ 'calldata ( \"s\" ) ]", "[ value ( 0x01 ) , ]", "[", "x",
+                               "[ x", "[ 'value ( \"s\" ) ]").split():
+                tokens.append(T(word))
+            tokens += m.file()
+            if m.likely(0.3):
+                mutate(m, tokens)
+        elif way == "types":
+            tokens = [T("#define"), T(m.r.choice(["error", "event", "function"])), T("E"), OPEN_PAREN]
+            for _ in range(m.r.randint(1, 3)):
+                word = m.r.choice(m.some(ODD_TYPES, ODD_TYPES, NO_TYPES, TYPES))
+                tokens += [(rules.PRIMITIVE, word.encode(), 0), m.ident(), COMMA]
+            tokens += [CLOSE_PAREN] + m.file()
+            if m.likely(0.3):
+                mutate(m, tokens)
+        elif way == "digits":
+            tokens = m.file() + [T("#define"), T("table"), T("T"), T("{")]
+            for _ in range(m.r.randint(1, 3)):
+                word = m.r.choice(m.some(OTHER_DIGITS, OTHER_DIGITS, NOT_DIGITS, ["ab", "1"]))
+                tokens.append((rules.IDENT, word.encode(), 0))
+            tokens += [T("}")] + m.file()
+        else:
+            tokens = m.file()
+            for _ in range(m.r.randint(1, 2)):
+                own = m.some(b"\xff", b"a\x80", b"\xc3", "\u00e4".encode(), b"\xed\xa0\x80")
+                kind = m.some(rules.IDENT, rules.LABEL, rules.STR, rules.BUILTIN, rules.COMMENT, rules.PRIMITIVE,
+                              rules.DEFINE, rules.WHITESPACE, rules.NUM)
+                tokens.insert(m.r.randint(0, len(tokens)), (kind, own, 0))
+        yield m.line("F", 0, tokens)
+
+
+def limits(m, seed, count):
+    """The largest and one more: 1,048,576 bytes, 65,536 tokens."""
+    add, comma, space = T("ADD"), T(","), (rules.WHITESPACE, b" ", 0)
+
+    def of(mode, tokens, text=None, room=None):
+        laid, words = notation.lay_out(tokens + [EOF], b"")
+        text = laid if text is None else laid + b" " * (text - len(laid))
+        room = room or m.roomy(mode, 0, text, words)
+        return notation.case_line(mode, 0, room, text, words)
+
+    small = [T("{"), T("}")]
+    made = [
+        lambda: of("B", small, 1048576),
+        lambda: of("B", small, 1048577),
+        lambda: of("B", [T("{"), (rules.IDENT, b"a" * 1048574, 0), T("}")]),
+        lambda: of("F", [], 1048577),
+        lambda: of("B", [T("{")] + [add] * 65533 + [T("}")]),
+        lambda: of("B", [T("{")] + [add] * 65534 + [T("}")]),
+        lambda: of("B", [T("{")] + [T("a")] * 65533 + [T("}")], None, [65536, 0, 8 * 65532, 0]),
+        lambda: of("B", [T("{"), T("F"), OPEN_PAREN] + [T("a")] * 65530 + [CLOSE_PAREN, T("}")]),
+        lambda: of("B", [T("{"), T("F"), OPEN_PAREN] + [T("a"), comma] * 32765 + [CLOSE_PAREN, T("}")]),
+        lambda: of("B", [space] * 65533 + small),
+        lambda: of("B", [space] * 65534 + small),
+        lambda: of("F", [T("#include"), T('"x"')] * 32767),
+        lambda: of("F", [T("#include"), T('"x"')] * 32768),
+        lambda: of("F", [w for i in range(8191) for w in
+                         [T("#define"), T("macro"), T("m%05d" % i), OPEN_PAREN, CLOSE_PAREN, T("="), T("{"), T("}")]]),
+        lambda: of("F", [T("#define"), T("table"), T("T"), T("{")] + [T("abc")] * 65530 + [T("}")]),
+        lambda: of("B", [T("{")] + [w for _ in range(32766) for w in (T("~l"), T(":"))] + [T("}")]),
+    ]
+    for make in made[:count]:
+        yield make()
+
+
+FAMILIES = {"bodies": bodies, "files": files, "mutations": mutations, "exhaustive": exhaustive, "pushes": pushes,
+            "illformed": illformed, "tables": tables, "starts": starts, "odd": odd, "limits": limits}
+
+
+def cases(family, seed, count):
+    """Case lines, one after the other. `all` shares the count among the families but limits."""
+    if family == "all":
+        names = [name for name in FAMILIES if name != "limits"]
+        for i, name in enumerate(names):
+            share = count // len(names) + (1 if i < count % len(names) else 0)
+            yield from cases(name, seed, share)
+        return
+    # A string as seed is hashed the same way everywhere.
+    yield from FAMILIES[family](Maker("%s %d" % (family, seed)), seed, count)

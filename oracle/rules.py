@@ -1,0 +1,520 @@
+#!/usr/bin/env python3
+"""Document 01's rules, read straightforwardly.
+
+Cases on standard input, answers on standard output, a line each, in the format of docs/CASES.md.
+It follows document 01 and the readings in docs/DECISIONS.md, and shares nothing with the Rust: it
+is the other side of the comparison. Every answer is given in full, refusals 30 to 35 and all lent
+contents too.
+
+  rules.py < cases > answers
+"""
+import re
+import sys
+
+NONE = 4294967295
+FILL = 2779096485
+LARGEST = 4194304
+
+KINDS = """Eof Whitespace Comment Include Define Pound Macro Fn Test Function Event Constant Error
+JumpTable JumpTablePacked CodeTable Takes Returns View Pure Payable NonPayable Indexed Calldata
+Memory Storage Assign OpenParen CloseParen OpenBrace CloseBrace OpenBracket CloseBracket LeftAngle
+RightAngle Comma Colon FreeStoragePointer Ident Label Literal Opcode Num Str BuiltinFunction
+PrimitiveType""".split()
+(EOF, WHITESPACE, COMMENT, INCLUDE, DEFINE, POUND, MACRO, FN, TEST, FUNCTION, EVENT, CONSTANT,
+ ERROR, JUMP_TABLE, JUMP_TABLE_PACKED, CODE_TABLE, TAKES, RETURNS, VIEW, PURE, PAYABLE, NON_PAYABLE,
+ INDEXED, CALLDATA, MEMORY, STORAGE, ASSIGN, OPEN_PAREN, CLOSE_PAREN, OPEN_BRACE, CLOSE_BRACE,
+ OPEN_BRACKET, CLOSE_BRACKET, LEFT_ANGLE, RIGHT_ANGLE, COMMA, COLON, FREE_STORAGE_POINTER, IDENT,
+ LABEL, LITERAL, OPCODE, NUM, STR, BUILTIN, PRIMITIVE) = range(46)
+
+# The numbers of refusals.
+(UNEXPECTED_TYPE, INVALID_DEFINITION, INVALID_CONSTANT_VALUE, INVALID_PUSH, INVALID_IN_MACRO,
+ INVALID_IN_LABEL, TYPE_AS_NAME, INVALID_ARGS, INVALID_SINGLE_ARG, INVALID_MACRO_ARGS,
+ INVALID_TABLE_TOKEN, INVALID_CONSTANT, INVALID_ARG_CALL) = range(1, 14)
+DUPLICATE, POUND_AT_TOP = 20, 21
+NOT_WELL_FORMED, NO_SUCH_START, KEPT_SHORT = 30, 31, 35
+
+RESERVED = {b"address", b"bool", b"string", b"bytes", b"uint", b"int"}
+for m in range(1, 33):
+    RESERVED |= {b"uint%d" % (8 * m), b"int%d" % (8 * m), b"bytes%d" % m}
+
+LOCATIONS = {CALLDATA: 1, MEMORY: 2, STORAGE: 3}
+HEX = frozenset(b"0123456789abcdefABCDEF")
+
+
+class Refused(Exception):
+    """A refusal with one of 1 to 21, and its cursor."""
+
+    def __init__(self, number, cursor):
+        super().__init__(number, cursor)
+        self.number = number
+        self.cursor = cursor
+
+
+# The door.
+
+def literal_is_sound(own):
+    return 3 <= len(own) <= 66 and own[:2] == b"0x" and HEX.issuperset(own[2:])
+
+
+def first_bad(text, words):
+    """The cursor of 30, or None for a list that is well formed."""
+    tokens, rest = divmod(len(words), 4)
+    if len(text) > 1048576 or rest != 0 or tokens == 0 or tokens > 65536:
+        return 0
+    previous_end = 0
+    for number in range(tokens):
+        kind, start, end, extra = words[4 * number:4 * number + 4]
+        sound = (
+            kind <= 45
+            and start <= end <= len(text)
+            and start >= previous_end
+            and (kind == EOF) == (number == tokens - 1)
+        )
+        if sound:
+            if kind in (IDENT, LABEL):
+                sound = start < end
+            elif kind == LITERAL:
+                sound = literal_is_sound(text[start:end])
+        if sound:
+            if kind == OPCODE:
+                sound = extra <= 255
+            elif kind != NUM:
+                sound = extra == 0
+        if not sound:
+            return number
+        previous_end = end
+    return None
+
+
+def kept_numbers(words):
+    kinds = words[0::4]
+    return [number for number, kind in enumerate(kinds) if kind != WHITESPACE and kind != COMMENT]
+
+
+# Literals and pushes.
+
+def significant_bytes(own):
+    """How many bytes the literal's number takes; zero takes one."""
+    return max(1, (int(own[2:], 16).bit_length() + 7) // 8)
+
+
+def pushed_bytes(byte):
+    """n for a value push, 0 for any other opcode."""
+    return byte - 0x5f if 0x60 <= byte <= 0x7f else 0
+
+
+class Reading:
+    """Reads kept tokens by document 01's grammar and keeps the records, tables without bounds."""
+
+    def __init__(self, kinds, texts, extras, place):
+        self.kinds = kinds
+        self.texts = texts
+        self.extras = extras
+        self.place = place
+        self.definitions = []
+        self.statements = []
+        self.arguments = []
+        self.length = 0
+        self.names = set()
+
+    # Single tokens.
+
+    def here(self):
+        return self.kinds[self.place]
+
+    def refuse(self, number):
+        raise Refused(number, self.place)
+
+    def need(self, kind, number=UNEXPECTED_TYPE):
+        """The token here has to be of this kind; its place is given and the next one is here."""
+        if self.kinds[self.place] != kind:
+            raise Refused(number, self.place)
+        self.place += 1
+        return self.place - 1
+
+    def take(self, kind):
+        """Goes past the token here if it is of this kind."""
+        if self.kinds[self.place] != kind:
+            return False
+        self.place += 1
+        return True
+
+    # Bodies.
+
+    def body(self):
+        self.need(OPEN_BRACE)
+        while self.here() not in (LABEL, CLOSE_BRACE):
+            self.item(in_label=False)
+        while self.here() == LABEL:
+            self.group()
+        self.need(CLOSE_BRACE)
+
+    def group(self):
+        own = len(self.statements)
+        self.statements.append(None)
+        arguments_before = len(self.arguments)
+        first = self.need(LABEL)
+        self.need(COLON)
+        self.lengthen(1)
+        while self.here() not in (LABEL, CLOSE_BRACE):
+            self.item(in_label=True)
+        inner = len(self.statements) - own - 1
+        self.statements[own] = (5, first, self.place, own + 1, inner, arguments_before, 0, first)
+
+    def item(self, in_label):
+        first = self.place
+        kind = self.kinds[first]
+        if kind == LITERAL:
+            self.place += 1
+            self.statement(1, first, first)
+            self.lengthen(1 + significant_bytes(self.texts[first]))
+        elif kind == OPCODE:
+            self.place += 1
+            self.statement(2, first, first)
+            self.lengthen(1)
+            n = pushed_bytes(self.extras[first])
+            if n > 0 and not in_label:
+                operand = self.need(LITERAL, INVALID_PUSH)
+                if significant_bytes(self.texts[operand]) > n:
+                    self.refuse(INVALID_PUSH)
+                self.statement(1, operand, operand)
+                self.lengthen(n)
+        elif kind == IDENT:
+            self.place += 1
+            if self.here() == OPEN_PAREN:
+                arguments_before = len(self.arguments)
+                self.call_list()
+                self.statement(4, first, first, arguments_before)
+                self.length = NONE
+            else:
+                self.statement(3, first, first)
+                self.lengthen(3)
+        elif kind == OPEN_BRACKET:
+            self.place += 1
+            name = self.need(IDENT, INVALID_CONSTANT)
+            self.need(CLOSE_BRACKET)
+            self.statement(6, first, name)
+            self.length = NONE
+        elif kind == LEFT_ANGLE:
+            self.place += 1
+            name = self.need(IDENT, INVALID_ARG_CALL)
+            self.need(RIGHT_ANGLE)
+            self.statement(7, first, name)
+            self.length = NONE
+        elif kind == BUILTIN:
+            self.place += 1
+            arguments_before = len(self.arguments)
+            self.untyped_list(builtin=True)
+            self.statement(8, first, first, arguments_before)
+            self.length = NONE
+        else:
+            self.refuse(INVALID_IN_LABEL if in_label else INVALID_IN_MACRO)
+
+    def statement(self, kind, first, place, arguments_before=None):
+        """The record of a statement that isn't a label and ends here."""
+        own = len(self.statements)
+        so_far = len(self.arguments)
+        if arguments_before is None:
+            arguments_before = so_far
+        self.statements.append((kind, first, self.place, own + 1, 0, arguments_before,
+                                so_far - arguments_before, place))
+
+    def lengthen(self, by):
+        if self.length != NONE:
+            self.length += by
+
+    # Lists.
+
+    def call_list(self):
+        self.need(OPEN_PAREN)
+        while self.here() != CLOSE_PAREN:
+            first = self.place
+            kind = self.kinds[first]
+            if kind == LITERAL:
+                self.place += 1
+                form, name = 4, first
+            elif kind in (IDENT, CALLDATA):
+                self.place += 1
+                form, name = 5, first
+            elif kind == LEFT_ANGLE:
+                self.place += 1
+                name = self.need(IDENT)
+                self.need(RIGHT_ANGLE)
+                form = 6
+            else:
+                self.refuse(INVALID_MACRO_ARGS)
+            self.arguments.append((form, NONE, name, 0, 0, first, self.place))
+            self.take(COMMA)
+        self.need(CLOSE_PAREN)
+
+    def untyped_list(self, builtin):
+        """A builtin's list, or a macro's, which has no strings and no literals; gives its count."""
+        before = len(self.arguments)
+        self.need(OPEN_PAREN)
+        names = 0
+        while self.here() != CLOSE_PAREN:
+            first = self.place
+            kind = self.kinds[first]
+            if builtin and kind in (STR, LITERAL):
+                self.place += 1
+                self.arguments.append((2 if kind == STR else 3, NONE, first, 0, 0, first, first + 1))
+            else:
+                location = self.location()
+                tested = names % 2 == 1
+                if not self.name(tested):
+                    # The Comma is eaten before the refusal is given.
+                    self.take(COMMA)
+                    self.refuse(INVALID_ARGS)
+                names += 1
+                self.arguments.append((1, NONE, self.place - 1, 0, location, first, self.place))
+            if self.take(COMMA):
+                names = 0
+        self.need(CLOSE_PAREN)
+        return len(self.arguments) - before
+
+    def typed_list(self, indexes=False):
+        """A function's, an event's or an error's list; gives its count."""
+        before = len(self.arguments)
+        self.need(OPEN_PAREN)
+        while self.here() != CLOSE_PAREN:
+            first = self.need(PRIMITIVE, INVALID_ARGS)
+            indexed = 1 if indexes and self.take(INDEXED) else 0
+            location = self.location()
+            name = self.place - 1 if self.name(tested=True) else NONE
+            self.arguments.append((1, first, name, indexed, location, first, self.place))
+            self.take(COMMA)
+        self.need(CLOSE_PAREN)
+        return len(self.arguments) - before
+
+    def location(self):
+        found = LOCATIONS.get(self.here(), 0)
+        if found:
+            self.place += 1
+        return found
+
+    def name(self, tested):
+        """Goes past a name if one is here. A type stands in no name's place."""
+        kind = self.here()
+        if kind == PRIMITIVE:
+            self.refuse(TYPE_AS_NAME if tested else UNEXPECTED_TYPE)
+        if kind != IDENT:
+            return False
+        if tested and self.texts[self.place] in RESERVED:
+            self.refuse(TYPE_AS_NAME)
+        self.place += 1
+        return True
+
+    # Files.
+
+    def file(self):
+        while self.here() != EOF:
+            kind = self.here()
+            if kind == INCLUDE:
+                self.include()
+            elif kind == DEFINE:
+                self.define()
+            elif kind == POUND:
+                self.refuse(POUND_AT_TOP)
+            else:
+                self.refuse(UNEXPECTED_TYPE)
+
+    def include(self):
+        first = self.need(INCLUDE)
+        name = self.need(STR)
+        a, s = len(self.arguments), len(self.statements)
+        self.definitions.append((1, name, first, self.place, a, 0, a, 0, s, 0, 0, 0))
+
+    def define(self):
+        first = self.need(DEFINE)
+        keyword = self.here()
+        if keyword not in DEFINITIONS:
+            self.refuse(INVALID_DEFINITION)
+        number, rest = DEFINITIONS[keyword]
+        self.place += 1
+        name = self.need(IDENT)
+        first_argument, first_statement = len(self.arguments), len(self.statements)
+        arguments, outputs, a, b = rest(self, keyword, name)
+        self.definitions.append((number, name, first, self.place, first_argument, arguments,
+                                 first_argument + arguments, outputs, first_statement,
+                                 len(self.statements) - first_statement, a, b))
+
+    # Each of these goes to the definition's end and gives its declared arguments, its outputs, and
+    # the record's A and B.
+
+    def rest_of_function(self, keyword, name):
+        arguments = self.typed_list()
+        types = {VIEW: 1, PURE: 2, PAYABLE: 3, NON_PAYABLE: 4}
+        if self.here() not in types:
+            self.refuse(UNEXPECTED_TYPE)
+        found = types[self.here()]
+        self.place += 1
+        self.need(RETURNS)
+        outputs = self.typed_list()
+        return arguments, outputs, found, 0
+
+    def rest_of_event(self, keyword, name):
+        return self.typed_list(indexes=True), 0, 0, 0
+
+    def rest_of_error(self, keyword, name):
+        return self.typed_list(), 0, 0, 0
+
+    def rest_of_constant(self, keyword, name):
+        self.need(ASSIGN)
+        if self.here() == LITERAL:
+            found = 1
+        elif self.here() == FREE_STORAGE_POINTER:
+            found = 2
+        else:
+            self.refuse(INVALID_CONSTANT_VALUE)
+        self.place += 1
+        return 0, 0, found, self.place - 1
+
+    def rest_of_macro(self, keyword, name):
+        arguments = self.untyped_list(builtin=False)
+        self.need(ASSIGN)
+        takes = self.single() if self.take(TAKES) else 0
+        returns = self.single() if self.take(RETURNS) else 0
+        self.body()
+        self.remember(name)
+        return arguments, 0, takes, returns
+
+    def remember(self, name):
+        """No two macros, fns or tests have the same name."""
+        if self.texts[name] in self.names:
+            raise Refused(DUPLICATE, name)
+        self.names.add(self.texts[name])
+
+    def single(self):
+        self.need(OPEN_PAREN)
+        number = self.need(NUM, INVALID_SINGLE_ARG)
+        self.need(CLOSE_PAREN)
+        return self.extras[number]
+
+    def rest_of_table(self, keyword, name):
+        self.take(OPEN_PAREN)
+        self.take(CLOSE_PAREN)
+        self.take(ASSIGN)
+        self.need(OPEN_BRACE)
+        digits = entries = 0
+        while self.here() != CLOSE_BRACE:
+            entry = self.place
+            if self.here() != IDENT:
+                self.refuse(INVALID_TABLE_TOKEN)
+            own = self.texts[entry]
+            if keyword == CODE_TABLE and not self.is_code(own):
+                self.refuse(INVALID_TABLE_TOKEN)
+            self.place += 1
+            self.statement(9 if keyword == CODE_TABLE else 3, entry, entry)
+            entries += 1
+            digits += len(own)
+        self.need(CLOSE_BRACE)
+        if keyword == CODE_TABLE:
+            return 0, 0, digits // 2, 0
+        return 0, 0, entries * (2 if keyword == JUMP_TABLE_PACKED else 32), 0
+
+    def is_code(self, own):
+        return HEX.issuperset(own)
+
+
+DEFINITIONS = {
+    FUNCTION: (2, Reading.rest_of_function),
+    EVENT: (3, Reading.rest_of_event),
+    CONSTANT: (4, Reading.rest_of_constant),
+    ERROR: (5, Reading.rest_of_error),
+    MACRO: (6, Reading.rest_of_macro),
+    FN: (7, Reading.rest_of_macro),
+    TEST: (8, Reading.rest_of_macro),
+    JUMP_TABLE: (9, Reading.rest_of_table),
+    JUMP_TABLE_PACKED: (10, Reading.rest_of_table),
+    CODE_TABLE: (11, Reading.rest_of_table),
+}
+
+
+def read(mode, start, text, words, kept, reading=Reading):
+    """The reading of a well-formed list, or Refused."""
+    kinds, texts, extras = [], [], []
+    for number in kept:
+        kind, first, end, extra = words[4 * number:4 * number + 4]
+        kinds.append(kind)
+        texts.append(text[first:end])
+        extras.append(extra)
+    found = reading(kinds, texts, extras, start)
+    if mode == "B":
+        found.body()
+    else:
+        found.file()
+    return found
+
+
+# Cases and answers.
+
+NUMBER = rb"([0-9]{1,10})"
+CASE = re.compile(rb"([FB]) " + rb" ".join([NUMBER] * 5)
+                  + rb" (-|(?:[0-9a-fA-F]{2})+) (-|[0-9]{1,10}(?:,[0-9]{1,10})*)")
+
+
+def read_case(line):
+    """(mode, start, four lengths, text, words) of a line, or the answer that says why not."""
+    found = CASE.fullmatch(line)
+    if found is None:
+        return "X_NotACase"
+    mode = found.group(1).decode()
+    start, *lengths = [int(found.group(i)) for i in range(2, 7)]
+    text, words = found.group(7), found.group(8)
+    text = b"" if text == b"-" else bytes.fromhex(text.decode())
+    words = [] if words == b"-" else [int(w) for w in words.split(b",")]
+    if max([start] + lengths + words) > NONE:
+        return "X_NotACase"
+    if (mode == "F" and start != 0) or (mode == "B" and lengths[1] != 0):
+        return "X_NotACase"
+    if max(lengths + [len(text), len(words)]) > LARGEST:
+        return "X_TooLarge"
+    return mode, start, lengths, text, words
+
+
+def answer(mode, start, lengths, text, words, reading=Reading):
+    """The five numbers and the four lent lists after the call."""
+    untouched = [[FILL] * n for n in lengths]
+    bad = first_bad(text, words)
+    if bad is not None:
+        return (NOT_WELL_FORMED, bad, 0, 0, 0), untouched
+    kept = kept_numbers(words)
+    if lengths[0] < len(kept):
+        return (KEPT_SHORT, len(kept), 0, 0, 0), untouched
+    if mode == "B" and start >= len(kept):
+        return (NO_SUCH_START, start, 0, 0, 0), untouched
+
+    lists = [kept + [FILL] * (lengths[0] - len(kept))] + [[0] * n for n in lengths[1:]]
+    try:
+        found = read(mode, start, text, words, kept, reading)
+    except Refused as no:
+        return (no.number, no.cursor, 0, 0, 0), lists
+    tables = [(32, 12, found.definitions), (33, 8, found.statements), (34, 7, found.arguments)]
+    for (number, width, records), length in zip(tables, lengths[1:]):
+        if len(records) > length // width:
+            return (number, len(records), 0, 0, 0), lists
+    for i, (number, width, records) in enumerate(tables, 1):
+        flat = [word for record in records for word in record]
+        lists[i][:len(flat)] = flat
+    counts = [len(records) for _, _, records in tables]
+    if mode == "B":
+        return (0, found.place, counts[1], counts[2], found.length), lists
+    return (0, found.place, *counts), lists
+
+
+def show(numbers, lists):
+    return " ".join(map(str, numbers)) + "".join("|" + ",".join(map(str, l)) for l in lists)
+
+
+def main():
+    if len(sys.argv) > 1:
+        print(__doc__.strip())
+        sys.exit(0 if sys.argv[1] == "--help" else 2)
+    out = sys.stdout
+    for line in sys.stdin.buffer:
+        case = read_case(line[:-1] if line.endswith(b"\n") else line)
+        out.write((case if isinstance(case, str) else show(*answer(*case))) + "\n")
+
+
+if __name__ == "__main__":
+    main()
