@@ -1,0 +1,29 @@
+-- Theorem 6: the rows of document 01's table marked P, from the rules, under one statement.
+use mathlib.Core.Path.{_≡_, refl}
+use mathlib.Core.List.{List, map, flatten}
+use Rattle.tokens.specs.Byte.{bytes, same, digit, valueAfter}
+use Rattle.tokens.specs.Literal.{literalValue, bytesFrom, significant}
+use Rattle.tokens.specs.Push.{isValuePush, pushSize, fits}
+use Rattle.tokens.specs.Name.{decimal, multiples, sized, reservedNames, oneOf, reserved}
+use Rattle.grammar.specs.Rules.{base}
+use Rattle.grammar.specs.Grammar.{allowed}
+use Rattle.grammar.specs.Records.{argumentsOf, groupArguments, allArguments, simpleRecords, groupRecords, statementRecords, argumentRecords, groupCount, statementCount, argumentCount}
+use Rattle.grammar.specs.PlainLength.{mainBytes, innerBytes, groupBytes, allMeasured, groupsMeasured, plainLength}
+use Rattle.grammar.specs.Result.{look, choose, seq, many}
+use Rattle.grammar.specs.Reader.{separated, entries, closedList, callArgument, nameStep, untypedStep, builtinArgument, operandStep, identStep, item, items, groupRest, labelGroup, groups, bodyFrom, bodyAt}
+use Rattle.grammar.specs.Cases.{Row, Outcome, rows, others, braced, outcome}
+
+-- what the reader answers for each row, at place 0 and with the base's rules; the line says what must compute for that
+unfoldable pub outcomes : List Row → List Outcome
+unfolding bytes same digit valueAfter literalValue bytesFrom significant isValuePush pushSize fits decimal multiples sized reservedNames oneOf reserved flatten allowed argumentsOf groupArguments allArguments simpleRecords groupRecords statementRecords argumentRecords groupCount statementCount argumentCount mainBytes innerBytes groupBytes allMeasured groupsMeasured plainLength look choose seq many separated entries closedList callArgument nameStep untypedStep builtinArgument operandStep identStep item items groupRest labelGroup groups bodyFrom bodyAt
+outcomes list = map (λ row. outcome 0 (bodyAt base (braced (row .input)) 0)) list
+
+-- Theorem 6. The rows marked P
+pub rows-hold : outcomes rows ≡ map (λ row. row .outcome) rows
+unfolding outcomes
+rows-hold = refl
+
+-- further bodies, in the same way
+pub others-hold : outcomes others ≡ map (λ row. row .outcome) others
+unfolding outcomes
+others-hold = refl

@@ -1,0 +1,66 @@
+-- Small laws: two lists of tokens that agree at their beginning, proper tokens, what holds of every element.
+use Prim.Native.Nat.{ℕ, zero, suc, _+_, _≤_, _<_}
+use native.Mathlib.Nat.{zero-add, suc-add}
+use native.Mathlib.Omega.{arith}
+use mathlib.Core.Path.{_≡_, refl, sym, _∙_, ap}
+use mathlib.Core.Bool.{Bool, true, false, _&&_}
+use mathlib.Core.List.{List, [], _∷_, _++_}
+use lib.ListN.{take, drop}
+use lib.Seq.{take-take, take-nil}
+use Rattle.tokens.specs.Token.{Token, tokenAt}
+use Rattle.grammar.specs.Follows.{proper, allProper}
+use Rattle.grammar.specs.Ranges.{All}
+
+pub drop-take : (n m : ℕ) (ts : List Token) → drop n (take (n + m) ts) ≡ take m (drop n ts)
+drop-take zero m ts = ap (λ k. take k ts) (zero-add m)
+drop-take (suc n) m [] = rw (suc-add n m) (sym (take-nil m))
+drop-take (suc n) m (t ∷ ts) = rw (suc-add n m) (drop-take n m ts)
+
+-- lists that agree on n tokens agree on fewer
+pub agree-less : (m n : ℕ) (ts us : List Token) → m ≤ n → take n ts ≡ take n us → take m ts ≡ take m us
+agree-less m n ts us h e = sym (take-take m n ts h) ∙ ap (take m) e ∙ take-take m n us h
+
+pub agree-drop : (n m : ℕ) (ts us : List Token) → take (n + m) ts ≡ take (n + m) us → take m (drop n ts) ≡ take m (drop n us)
+agree-drop n m ts us e = sym (drop-take n m ts) ∙ ap (drop n) e ∙ drop-take n m us
+
+-- and have the same first token
+pub agree-first : (n : ℕ) (ts us : List Token) → take (suc n) ts ≡ take (suc n) us → tokenAt ts 0 ≡ tokenAt us 0
+agree-first n [] [] e = refl
+agree-first n [] (u ∷ us) e = cc
+agree-first n (t ∷ ts) [] e = cc
+agree-first n (t ∷ ts) (u ∷ us) e = cc
+
+pub agree-rest : (n : ℕ) (ts us : List Token) → take (suc n) ts ≡ take (suc n) us → take n (drop 1 ts) ≡ take n (drop 1 us)
+agree-rest n [] [] e = refl
+agree-rest n [] (u ∷ us) e = cc
+agree-rest n (t ∷ ts) [] e = cc
+agree-rest n (t ∷ ts) (u ∷ us) e = cc
+
+pub agree-none : (n : ℕ) (us : List Token) → take (suc n) [] ≡ take (suc n) us → us ≡ []
+agree-none n [] e = refl
+agree-none n (u ∷ us) e = cc
+
+pub agree-cons : (n : ℕ) (t : Token) (ts us : List Token) → take (suc n) (t ∷ ts) ≡ take (suc n) us → (vs : List Token) × (us ≡ t ∷ vs)
+agree-cons n t ts [] e = ([], cc)
+agree-cons n t ts (u ∷ us) e = (us, cc)
+
+pub proper-append : (xs ys : List Token) → allProper xs ≡ true → allProper ys ≡ true → allProper (xs ++ ys) ≡ true
+unfolding allProper
+proper-append [] ys hx hy = hy
+proper-append (x ∷ xs) ys hx hy = go (λ h. proper-append xs ys h hy) (proper x) hx
+  where
+    go : (allProper xs ≡ true → allProper (xs ++ ys) ≡ true) → (b : Bool) → (b && allProper xs) ≡ true → (b && allProper (xs ++ ys)) ≡ true
+    go later true h = later h
+    go later false h = h
+
+pub all-append : {A : Type 0} (P : A → Type 0) (xs ys : List A) → All P xs → All P ys → All P (xs ++ ys)
+all-append P [] ys h k = k
+all-append P (x ∷ xs) ys h k = (h .0, all-append P xs ys (h .1) k)
+
+pub all-map : {A : Type 0} (P Q : A → Type 0) (xs : List A) → ((x : A) → P x → Q x) → All P xs → All Q xs
+all-map P Q [] f h = tt
+all-map P Q (x ∷ xs) f h = (f x (h .0), all-map P Q xs f (h .1))
+
+-- of two numbers of which the first is not less
+pub not-less : {a b : ℕ} → ¬ (a < b) → b ≤ a
+not-less n = omega arith

@@ -1,0 +1,13 @@
+-- The grammar of a body and all that is said of it, in the order of document 01. A reader has to believe these files and nothing else of the crate;
+-- of Result and Reader only that they compute: what they answer is proved to be what the others say.
+pub mod Reading
+pub mod Rules
+pub mod Grammar
+pub mod Records
+pub mod PlainLength
+pub mod Result
+pub mod Reader
+pub mod Follows
+pub mod Means
+pub mod Ranges
+pub mod Cases
