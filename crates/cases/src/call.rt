@@ -1,0 +1,70 @@
+// The call that a case is about. The readers of bodies and of files are called here and nowhere else.
+use tokens::Door;
+
+// The five numbers of an entry's answer; not known: the entry can't be asked yet.
+pub struct Answer {
+    pub known: bool,
+    pub number: usize,
+    pub cursor: usize,
+    pub c1: usize,
+    pub c2: usize,
+    pub c3: usize,
+}
+
+// A refusal by document 01's number; its counts are 0.
+fn refusal(number: usize, cursor: usize) -> Answer {
+    Answer {
+        known: true,
+        number,
+        cursor,
+        c1: 0,
+        c2: 0,
+        c3: 0,
+    }
+}
+
+// What the door lets through is not read yet.
+fn not_read() -> Answer {
+    Answer {
+        known: false,
+        number: 0,
+        cursor: 0,
+        c1: 0,
+        c2: 0,
+        c3: 0,
+    }
+}
+
+// The door's refusals: 30, 35 and 31.
+fn door_answer(text: &[u8], tokens: &[u32], start: usize, kept: &mut [u32]) -> Answer {
+    match tokens::prepare(text, tokens, start, kept) {
+        Door::NotWellFormed(at) => refusal(30, at),
+        Door::KeptTooShort(count) => refusal(35, count),
+        Door::StartOutside(at) => refusal(31, at),
+        Door::Ready(_) => not_read(),
+    }
+}
+
+// One body, from the place `start`.
+pub fn answer_body(
+    text: &[u8],
+    tokens: &[u32],
+    start: usize,
+    kept: &mut [u32],
+    statements: &mut [u32],
+    arguments: &mut [u32],
+) -> Answer {
+    door_answer(text, tokens, start, kept)
+}
+
+// A whole file.
+pub fn answer_file(
+    text: &[u8],
+    tokens: &[u32],
+    kept: &mut [u32],
+    definitions: &mut [u32],
+    statements: &mut [u32],
+    arguments: &mut [u32],
+) -> Answer {
+    door_answer(text, tokens, 0, kept)
+}
