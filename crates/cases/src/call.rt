@@ -1,4 +1,5 @@
 // The call that a case is about. The readers of bodies and of files are called here and nowhere else.
+use statements::Body;
 use tokens::Door;
 
 // The five numbers of an entry's answer; not known: the entry can't be asked yet.
@@ -20,6 +21,18 @@ fn refusal(number: usize, cursor: usize) -> Answer {
         c1: 0,
         c2: 0,
         c3: 0,
+    }
+}
+
+// An accepted case: its cursor and three counts.
+fn accepted(cursor: usize, c1: usize, c2: usize, c3: usize) -> Answer {
+    Answer {
+        known: true,
+        number: 0,
+        cursor,
+        c1,
+        c2,
+        c3,
     }
 }
 
@@ -54,7 +67,20 @@ pub fn answer_body(
     statements: &mut [u32],
     arguments: &mut [u32],
 ) -> Answer {
-    door_answer(text, tokens, start, kept)
+    match statements::read_body(text, tokens, start, kept, statements, arguments) {
+        Body::NotWellFormed(at) => refusal(30, at),
+        Body::KeptTooShort(count) => refusal(35, count),
+        Body::StartOutside(at) => refusal(31, at),
+        Body::Refused(number, cursor) => refusal(number as usize, cursor),
+        Body::StatementsTooSmall(need) => refusal(33, need),
+        Body::ArgumentsTooSmall(need) => refusal(34, need),
+        Body::Read(cursor, statements, arguments, length) => accepted(
+            cursor,
+            statements,
+            arguments,
+            length,
+        ),
+    }
 }
 
 // A whole file.

@@ -10,3 +10,16 @@ pub mod Places
 pub mod Stops
 pub mod Cases
 pub mod AtPlace
+pub mod FileCases
+pub mod FileHolds
+pub mod FileTyped
+pub mod FileSound
+pub mod FileComplete
+pub mod FileRuns
+pub mod FileDemand
+pub mod FileNames
+pub mod FileRecorded
+pub mod FileCover
+pub mod FileBounds
+pub mod FilePlaces
+pub mod FileAtPlace

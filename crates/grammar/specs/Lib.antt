@@ -11,3 +11,11 @@ pub mod Follows
 pub mod Means
 pub mod Ranges
 pub mod Cases
+pub mod FileReading
+pub mod FileGrammar
+pub mod FileRecords
+pub mod FileReader
+pub mod FileFollows
+pub mod FileMeans
+pub mod FileCases
+pub mod Typed

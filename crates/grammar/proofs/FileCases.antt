@@ -1,0 +1,27 @@
+-- The rows of files, from the rules, under one statement.
+use mathlib.Core.Path.{_≡_, refl}
+use mathlib.Core.Bool.{true}
+use mathlib.Core.List.{List, map, flatten}
+use Rattle.tokens.specs.Byte.{bytes, same, isHex, allHex}
+use Rattle.tokens.specs.Name.{decimal, multiples, sized, reservedNames, oneOf, reserved}
+use Rattle.grammar.specs.Rules.{base}
+use Rattle.grammar.specs.Grammar.{allowed}
+use Rattle.grammar.specs.Records.{argumentsOf, groupArguments, allArguments, simpleRecords, groupRecords, statementRecords, groupCount, statementCount}
+use Rattle.grammar.specs.Result.{look, choose, seq, many}
+use Rattle.grammar.specs.Reader.{separated, entries, closedList, callArgument, nameStep, untypedStep, nameArgument, identStep, item, items, groupRest, labelGroup, groups, bodyFrom}
+use Rattle.grammar.specs.Typed.{indexedHere, locationHere, typedName, typedArgument, singleNumber}
+use Rattle.grammar.specs.FileReading.{digitTotal, sizeOf}
+use Rattle.grammar.specs.FileGrammar.{entryAllowed, repeats}
+use Rattle.grammar.specs.FileRecords.{formArguments, entryRecords, formCount, formStatements, definitionRecord, definitionRecords, fileStatements, fileArguments, fileArgumentRecords, fileStatementCount}
+use Rattle.grammar.specs.FileReader.{byKind, optional, named, parseImports, functionType, functionRest, parseFunction, eventRest, parseEvent, constantValue, constantRest, parseConstant, errorRest, parseCustomError, macroRest, parseMacro, tableEntry, tableEntries, parseTableBody, tableRest, parseTable, parseDefinition, topLevel, checked, definition, parse, fileAt}
+use Rattle.grammar.specs.FileCases.{FileRow, FileOutcome, fileRows, ended, fileOutcome}
+
+-- what the reader answers for each row, with the base's rules and the rule on names; the line says what must compute for that
+unfoldable pub fileOutcomes : List FileRow → List FileOutcome
+unfolding bytes same isHex allHex decimal multiples sized reservedNames oneOf reserved flatten allowed argumentsOf groupArguments allArguments simpleRecords groupRecords statementRecords groupCount statementCount look choose seq many separated entries closedList callArgument nameStep untypedStep nameArgument identStep item items groupRest labelGroup groups bodyFrom indexedHere locationHere typedName typedArgument singleNumber digitTotal sizeOf entryAllowed repeats formArguments entryRecords formCount formStatements definitionRecord definitionRecords fileStatements fileArguments fileArgumentRecords fileStatementCount byKind optional named parseImports functionType functionRest parseFunction eventRest parseEvent constantValue constantRest parseConstant errorRest parseCustomError macroRest parseMacro tableEntry tableEntries parseTableBody tableRest parseTable parseDefinition topLevel checked definition parse fileAt
+fileOutcomes list = map (λ row. fileOutcome (fileAt base true (ended (row .input)))) list
+
+-- document 01's rows of files, one of each definition, and refusals of every kind
+pub file-rows-hold : fileOutcomes fileRows ≡ map (λ row. row .outcome) fileRows
+unfolding fileOutcomes
+file-rows-hold = refl

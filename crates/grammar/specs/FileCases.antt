@@ -1,0 +1,151 @@
+-- Document 01, "Bodies and files on both sides": the rows of files, input and answer side by side, and further files. Eof follows each.
+use Prim.Native.Nat.{ℕ}
+use mathlib.Core.List.{List, [], _∷_, _++_}
+use lib.ListN.{length}
+use Rattle.tokens.specs.Token.{Token, eofToken}
+use Rattle.tokens.specs.Kind.{Include, Define, Pound, Macro, Fn, Test, Function, Event, Constant, Error, JumpTable, JumpTablePacked, CodeTable, Takes, Returns, View, Indexed, Calldata, Memory, Assign, OpenParen, CloseParen, OpenBrace, CloseBrace, Comma, Colon, FreeStoragePointer, Ident, Label, Literal, Num, Str, PrimitiveType}
+use Rattle.grammar.specs.Reading.{NONE}
+use Rattle.grammar.specs.FileRecords.{definitionRecords, fileStatements, fileArguments, fileArgumentRecords, fileStatementCount}
+use Rattle.grammar.specs.FileReader.{FileAnswer, readFile, refusedFile}
+use Rattle.grammar.specs.Cases.{mark, word}
+
+-- what a file call answers: number, cursor, definitions, statements, arguments; and the records of the three tables
+pub record FileOutcome : Type 0 where
+  pub answers : List ℕ
+  pub definitions : List (List ℕ)
+  pub statements : List (List ℕ)
+  pub arguments : List (List ℕ)
+
+-- of an answer; refused, the counts are 0 and there are no records
+abbrev pub fileOutcome : FileAnswer → FileOutcome
+fileOutcome (readFile ds n) =
+    record {
+      answers = 0 ∷ n ∷ length ds ∷ fileStatementCount ds ∷ length (fileArguments ds) ∷ [];
+      definitions = definitionRecords 0 0 ds;
+      statements = fileStatements 0 0 ds;
+      arguments = fileArgumentRecords ds;
+    }
+fileOutcome (refusedFile c q) = record { answers = c ∷ q ∷ 0 ∷ 0 ∷ 0 ∷ []; definitions = []; statements = []; arguments = [] }
+
+-- a number token
+abbrev pub num : ℕ → Token
+num n = record { kind = Num; text = []; extra = n }
+
+-- a row: the tokens before Eof, and the outcome
+pub record FileRow : Type 0 where
+  pub input : List Token
+  pub outcome : FileOutcome
+
+-- a file and its Eof
+abbrev pub ended : List Token → List Token
+ended ts = ts ++ (eofToken ∷ [])
+
+-- a row that is accepted: cursor and counts; definition, statement and argument records
+abbrev pub acceptedFile : List Token → List ℕ → List (List ℕ) → List (List ℕ) → List (List ℕ) → FileRow
+acceptedFile input answers definitions statements arguments =
+    record { input = input; outcome = record { answers = 0 ∷ answers; definitions = definitions; statements = statements; arguments = arguments } }
+
+-- a row that is refused: number and cursor
+abbrev pub refusalFile : List Token → ℕ → ℕ → FileRow
+refusalFile input c q = record { input = input; outcome = record { answers = c ∷ q ∷ 0 ∷ 0 ∷ 0 ∷ []; definitions = []; statements = []; arguments = [] } }
+
+-- #define kind name
+abbrev pub head : ℕ → Token → List Token → List Token
+head kind name ts = mark Define ∷ mark kind ∷ name ∷ ts
+
+-- #define kind name ( ) = { }
+abbrev pub bare : ℕ → Token → List Token
+bare kind name = head kind name (mark OpenParen ∷ mark CloseParen ∷ mark Assign ∷ mark OpenBrace ∷ mark CloseBrace ∷ [])
+
+abbrev pub fileRows : List FileRow
+fileRows =
+    -- #define macro M ( , ) = { }
+    refusalFile (head Macro (word Ident "M") (mark OpenParen ∷ mark Comma ∷ mark CloseParen ∷ mark Assign ∷ mark OpenBrace ∷ mark CloseBrace ∷ [])) 8 5
+    -- Eof alone
+    ∷ acceptedFile [] (0 ∷ 0 ∷ 0 ∷ 0 ∷ []) [] [] []
+    -- #define table T { abc }, #define table T { abc d }
+    ∷ acceptedFile (head CodeTable (word Ident "T") (mark OpenBrace ∷ word Ident "abc" ∷ mark CloseBrace ∷ [])) (6 ∷ 1 ∷ 1 ∷ 0 ∷ [])
+    ((11 ∷ 2 ∷ 0 ∷ 6 ∷ 0 ∷ 0 ∷ 0 ∷ 0 ∷ 0 ∷ 1 ∷ 1 ∷ 0 ∷ []) ∷ [])
+    ((9 ∷ 4 ∷ 5 ∷ 1 ∷ 0 ∷ 0 ∷ 0 ∷ 4 ∷ []) ∷ [])
+    []
+    ∷ acceptedFile (head CodeTable (word Ident "T") (mark OpenBrace ∷ word Ident "abc" ∷ word Ident "d" ∷ mark CloseBrace ∷ [])) (7 ∷ 1 ∷ 2 ∷ 0 ∷ [])
+    ((11 ∷ 2 ∷ 0 ∷ 7 ∷ 0 ∷ 0 ∷ 0 ∷ 0 ∷ 0 ∷ 2 ∷ 2 ∷ 0 ∷ []) ∷ [])
+    ((9 ∷ 4 ∷ 5 ∷ 1 ∷ 0 ∷ 0 ∷ 0 ∷ 4 ∷ []) ∷ (9 ∷ 5 ∷ 6 ∷ 2 ∷ 0 ∷ 0 ∷ 0 ∷ 5 ∷ []) ∷ [])
+    []
+    -- #define macro M ( a ) = { F ( b ) l : G ( c ) }, l a Label
+    ∷ acceptedFile (head Macro (word Ident "M") (mark OpenParen ∷ word Ident "a" ∷ mark CloseParen ∷ mark Assign ∷ mark OpenBrace ∷ word Ident "F" ∷ mark OpenParen ∷ word Ident "b" ∷ mark CloseParen ∷ word Label "l" ∷ mark Colon ∷ word Ident "G" ∷ mark OpenParen ∷ word Ident "c" ∷ mark CloseParen ∷ mark CloseBrace ∷ [])) (19 ∷ 1 ∷ 3 ∷ 3 ∷ [])
+    ((6 ∷ 2 ∷ 0 ∷ 19 ∷ 0 ∷ 1 ∷ 1 ∷ 0 ∷ 0 ∷ 3 ∷ 0 ∷ 0 ∷ []) ∷ [])
+    ((4 ∷ 8 ∷ 12 ∷ 1 ∷ 0 ∷ 1 ∷ 1 ∷ 8 ∷ []) ∷ (5 ∷ 12 ∷ 18 ∷ 2 ∷ 1 ∷ 2 ∷ 0 ∷ 12 ∷ []) ∷ (4 ∷ 14 ∷ 18 ∷ 3 ∷ 0 ∷ 2 ∷ 1 ∷ 14 ∷ []) ∷ [])
+    ((1 ∷ NONE ∷ 4 ∷ 0 ∷ 0 ∷ 4 ∷ 5 ∷ []) ∷ (5 ∷ NONE ∷ 10 ∷ 0 ∷ 0 ∷ 10 ∷ 11 ∷ []) ∷ (5 ∷ NONE ∷ 16 ∷ 0 ∷ 0 ∷ 16 ∷ 17 ∷ []) ∷ [])
+    -- #include "x"
+    ∷ acceptedFile (mark Include ∷ word Str "x" ∷ []) (2 ∷ 1 ∷ 0 ∷ 0 ∷ []) ((1 ∷ 1 ∷ 0 ∷ 2 ∷ 0 ∷ 0 ∷ 0 ∷ 0 ∷ 0 ∷ 0 ∷ 0 ∷ 0 ∷ []) ∷ []) [] []
+    -- #define function f ( t a ) view returns ( t ), t a PrimitiveType
+    ∷ acceptedFile (head Function (word Ident "f") (mark OpenParen ∷ mark PrimitiveType ∷ word Ident "a" ∷ mark CloseParen ∷ mark View ∷ mark Returns ∷ mark OpenParen ∷ mark PrimitiveType ∷ mark CloseParen ∷ [])) (12 ∷ 1 ∷ 0 ∷ 2 ∷ [])
+    ((2 ∷ 2 ∷ 0 ∷ 12 ∷ 0 ∷ 1 ∷ 1 ∷ 1 ∷ 0 ∷ 0 ∷ 1 ∷ 0 ∷ []) ∷ [])
+    []
+    ((1 ∷ 4 ∷ 5 ∷ 0 ∷ 0 ∷ 4 ∷ 6 ∷ []) ∷ (1 ∷ 10 ∷ NONE ∷ 0 ∷ 0 ∷ 10 ∷ 11 ∷ []) ∷ [])
+    -- #define event E ( t indexed calldata a )
+    ∷ acceptedFile (head Event (word Ident "E") (mark OpenParen ∷ mark PrimitiveType ∷ mark Indexed ∷ mark Calldata ∷ word Ident "a" ∷ mark CloseParen ∷ [])) (9 ∷ 1 ∷ 0 ∷ 1 ∷ [])
+    ((3 ∷ 2 ∷ 0 ∷ 9 ∷ 0 ∷ 1 ∷ 1 ∷ 0 ∷ 0 ∷ 0 ∷ 0 ∷ 0 ∷ []) ∷ [])
+    []
+    ((1 ∷ 4 ∷ 7 ∷ 1 ∷ 1 ∷ 4 ∷ 8 ∷ []) ∷ [])
+    -- #define constant C = 0x01 #define constant D = FREE_STORAGE_POINTER()
+    ∷ acceptedFile (head Constant (word Ident "C") (mark Assign ∷ word Literal "0x01" ∷ head Constant (word Ident "D") (mark Assign ∷ mark FreeStoragePointer ∷ []))) (10 ∷ 2 ∷ 0 ∷ 0 ∷ [])
+    ((4 ∷ 2 ∷ 0 ∷ 5 ∷ 0 ∷ 0 ∷ 0 ∷ 0 ∷ 0 ∷ 0 ∷ 1 ∷ 4 ∷ []) ∷ (4 ∷ 7 ∷ 5 ∷ 10 ∷ 0 ∷ 0 ∷ 0 ∷ 0 ∷ 0 ∷ 0 ∷ 2 ∷ 9 ∷ []) ∷ [])
+    []
+    []
+    -- #define error E ( t ) #define jumptable T { a }
+    ∷ acceptedFile (head Error (word Ident "E") (mark OpenParen ∷ mark PrimitiveType ∷ mark CloseParen ∷ head JumpTable (word Ident "T") (mark OpenBrace ∷ word Ident "a" ∷ mark CloseBrace ∷ []))) (12 ∷ 2 ∷ 1 ∷ 1 ∷ [])
+    ((5 ∷ 2 ∷ 0 ∷ 6 ∷ 0 ∷ 1 ∷ 1 ∷ 0 ∷ 0 ∷ 0 ∷ 0 ∷ 0 ∷ []) ∷ (9 ∷ 8 ∷ 6 ∷ 12 ∷ 1 ∷ 0 ∷ 1 ∷ 0 ∷ 0 ∷ 1 ∷ 32 ∷ 0 ∷ []) ∷ [])
+    ((3 ∷ 10 ∷ 11 ∷ 1 ∷ 0 ∷ 1 ∷ 0 ∷ 10 ∷ []) ∷ [])
+    ((1 ∷ 4 ∷ NONE ∷ 0 ∷ 0 ∷ 4 ∷ 5 ∷ []) ∷ [])
+    -- #define jumptable__packed T ( ) = { a b }
+    ∷ acceptedFile (head JumpTablePacked (word Ident "T") (mark OpenParen ∷ mark CloseParen ∷ mark Assign ∷ mark OpenBrace ∷ word Ident "a" ∷ word Ident "b" ∷ mark CloseBrace ∷ [])) (10 ∷ 1 ∷ 2 ∷ 0 ∷ [])
+    ((10 ∷ 2 ∷ 0 ∷ 10 ∷ 0 ∷ 0 ∷ 0 ∷ 0 ∷ 0 ∷ 2 ∷ 4 ∷ 0 ∷ []) ∷ [])
+    ((3 ∷ 7 ∷ 8 ∷ 1 ∷ 0 ∷ 0 ∷ 0 ∷ 7 ∷ []) ∷ (3 ∷ 8 ∷ 9 ∷ 2 ∷ 0 ∷ 0 ∷ 0 ∷ 8 ∷ []) ∷ [])
+    []
+    -- #define test t ( ) = takes ( 1 ) returns ( 2 ) { }
+    ∷ acceptedFile (head Test (word Ident "t") (mark OpenParen ∷ mark CloseParen ∷ mark Assign ∷ mark Takes ∷ mark OpenParen ∷ num 1 ∷ mark CloseParen ∷ mark Returns ∷ mark OpenParen ∷ num 2 ∷ mark CloseParen ∷ mark OpenBrace ∷ mark CloseBrace ∷ [])) (16 ∷ 1 ∷ 0 ∷ 0 ∷ [])
+    ((8 ∷ 2 ∷ 0 ∷ 16 ∷ 0 ∷ 0 ∷ 0 ∷ 0 ∷ 0 ∷ 0 ∷ 1 ∷ 2 ∷ []) ∷ [])
+    []
+    []
+    -- #define fn f ( memory a b , c ) = returns ( 4294967295 ) { }
+    ∷ acceptedFile (head Fn (word Ident "f") (mark OpenParen ∷ mark Memory ∷ word Ident "a" ∷ word Ident "b" ∷ mark Comma ∷ word Ident "c" ∷ mark CloseParen ∷ mark Assign ∷ mark Returns ∷ mark OpenParen ∷ num 4294967295 ∷ mark CloseParen ∷ mark OpenBrace ∷ mark CloseBrace ∷ [])) (17 ∷ 1 ∷ 0 ∷ 3 ∷ [])
+    ((7 ∷ 2 ∷ 0 ∷ 17 ∷ 0 ∷ 3 ∷ 3 ∷ 0 ∷ 0 ∷ 0 ∷ 0 ∷ 4294967295 ∷ []) ∷ [])
+    []
+    ((1 ∷ NONE ∷ 5 ∷ 0 ∷ 2 ∷ 4 ∷ 6 ∷ []) ∷ (1 ∷ NONE ∷ 6 ∷ 0 ∷ 0 ∷ 6 ∷ 7 ∷ []) ∷ (1 ∷ NONE ∷ 8 ∷ 0 ∷ 0 ∷ 8 ∷ 9 ∷ []) ∷ [])
+    -- macro b, macro a, fn b: 20 at the third name
+    ∷ refusalFile (bare Macro (word Ident "b") ++ (bare Macro (word Ident "a") ++ bare Fn (word Ident "b"))) 20 18
+    -- what is wrong inside the later macro comes first: macro b, macro b ( , ) = { }
+    ∷ refusalFile (bare Macro (word Ident "b") ++ head Macro (word Ident "b") (mark OpenParen ∷ mark Comma ∷ [])) 8 13
+    -- a macro and a table may share a name; what is wrong behind the later macro comes after 20
+    ∷ acceptedFile (bare Macro (word Ident "b") ++ head JumpTable (word Ident "b") (mark OpenBrace ∷ mark CloseBrace ∷ [])) (13 ∷ 2 ∷ 0 ∷ 0 ∷ [])
+    ((6 ∷ 2 ∷ 0 ∷ 8 ∷ 0 ∷ 0 ∷ 0 ∷ 0 ∷ 0 ∷ 0 ∷ 0 ∷ 0 ∷ []) ∷ (9 ∷ 10 ∷ 8 ∷ 13 ∷ 0 ∷ 0 ∷ 0 ∷ 0 ∷ 0 ∷ 0 ∷ 0 ∷ 0 ∷ []) ∷ [])
+    []
+    []
+    ∷ refusalFile (bare Macro (word Ident "b") ++ (bare Test (word Ident "b") ++ (mark Pound ∷ []))) 20 10
+    -- #, #define #, #define, #include, { at top level
+    ∷ refusalFile (mark Pound ∷ []) 21 0
+    ∷ refusalFile (mark Define ∷ mark Pound ∷ []) 2 1
+    ∷ refusalFile (mark Define ∷ []) 2 1
+    ∷ refusalFile (mark Include ∷ []) 1 1
+    ∷ refusalFile (mark OpenBrace ∷ []) 1 0
+    -- #define constant C = {
+    ∷ refusalFile (head Constant (word Ident "C") (mark Assign ∷ mark OpenBrace ∷ [])) 3 4
+    -- typed lists: ( t , , ), ( t t ), ( t uint8 ), ( calldata ), and Indexed in an error
+    ∷ refusalFile (head Error (word Ident "E") (mark OpenParen ∷ mark PrimitiveType ∷ mark Comma ∷ mark Comma ∷ [])) 8 6
+    ∷ refusalFile (head Error (word Ident "E") (mark OpenParen ∷ mark PrimitiveType ∷ mark PrimitiveType ∷ [])) 7 5
+    ∷ refusalFile (head Error (word Ident "E") (mark OpenParen ∷ mark PrimitiveType ∷ word Ident "uint8" ∷ [])) 7 5
+    ∷ refusalFile (head Error (word Ident "E") (mark OpenParen ∷ mark Calldata ∷ [])) 8 4
+    ∷ refusalFile (head Error (word Ident "E") (mark OpenParen ∷ mark PrimitiveType ∷ mark Indexed ∷ [])) 8 5
+    -- #define function f ( ) returns ( )
+    ∷ refusalFile (head Function (word Ident "f") (mark OpenParen ∷ mark CloseParen ∷ mark Returns ∷ [])) 1 5
+    -- takes { }, takes ( a ), returns before takes
+    ∷ refusalFile (head Macro (word Ident "M") (mark OpenParen ∷ mark CloseParen ∷ mark Assign ∷ mark Takes ∷ mark OpenBrace ∷ [])) 1 7
+    ∷ refusalFile (head Macro (word Ident "M") (mark OpenParen ∷ mark CloseParen ∷ mark Assign ∷ mark Takes ∷ mark OpenParen ∷ word Ident "a" ∷ [])) 9 8
+    ∷ refusalFile (head Macro (word Ident "M") (mark OpenParen ∷ mark CloseParen ∷ mark Assign ∷ mark Returns ∷ mark OpenParen ∷ num 1 ∷ mark CloseParen ∷ mark Takes ∷ [])) 1 10
+    -- tables: T = ( ) {, an entry that is no hex, Eof inside
+    ∷ refusalFile (head JumpTable (word Ident "T") (mark Assign ∷ mark OpenParen ∷ [])) 1 4
+    ∷ refusalFile (head CodeTable (word Ident "T") (mark OpenBrace ∷ word Ident "xyz" ∷ [])) 11 4
+    ∷ refusalFile (head JumpTable (word Ident "T") (mark OpenBrace ∷ [])) 11 4
+    ∷ []

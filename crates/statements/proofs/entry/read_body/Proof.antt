@@ -1,0 +1,92 @@
+use mathlib.Core.Path.{refl}
+use denote.Ref.{now}
+use Rattle.statements.proofs.EntryLaws.{kept-part, call-from, call-read}
+use borrow.Author.Needs.{needs}
+use Rattle.statements.proofs.entry.read_body.Statement.{statement}
+use Rattle.statements.proofs.entry.read_body.Tie as tie
+
+prepare-requires : tie.Need-prepare-requires
+prepare-requires c κs = search needs
+
+enum-known-at : tie.Need-enum-known-at
+enum-known-at c = search needs
+
+enum-known-count : tie.Need-enum-known-count
+enum-known-count c = search needs
+
+enum-known-at-2 : tie.Need-enum-known-at-2
+enum-known-at-2 c = search needs
+
+enum-known-count-2 : tie.Need-enum-known-count-2
+enum-known-count-2 c = search needs
+
+sub-reading : tie.Need-sub-reading
+sub-reading c = search needs
+
+part-reading-start : tie.Need-part-reading-start
+part-reading-start c = search needs
+
+part-reading-end : tie.Need-part-reading-end
+part-reading-end c =
+    let a = c .before .before .before .before .before .before .before .before .before .before .before .before .before .args in
+    kept-part (now (a .text)) (now (a .tokens)) (a .start) (now (a .kept)) (c .before .before .before .before .before .before .prepare .ensures) (c .before .before .count2 .given .1) .1
+
+reading-requires : tie.Need-reading-requires
+reading-requires c κs =
+    let a = c .before .before .before .before .before .before .before .before .before .before .before .before .before .before .before .before .args in
+    let k = kept-part (now (a .text)) (now (a .tokens)) (a .start) (now (a .kept)) (c .before .before .before .before .before .before .before .before .before .prepare .ensures) (c .before .before .before .before .before .count2 .given .1) in
+    rw (k .0) (k .2)
+
+same-length : tie.Need-same-length
+same-length c = search needs
+
+returns : tie.Need-returns
+returns c = call-from (rw (c .before .at .given .1) at (c .before .before .before .before .before .prepare .ensures)) refl refl refl
+
+same-length-2 : tie.Need-same-length-2
+same-length-2 c = search needs
+
+returns-2 : tie.Need-returns-2
+returns-2 c = call-from (rw (c .before .count .given .1) at (c .before .before .before .before .before .prepare .ensures)) refl refl refl
+
+same-length-3 : tie.Need-same-length-3
+same-length-3 c = search needs
+
+returns-3 : tie.Need-returns-3
+returns-3 c = call-from (rw (c .before .at2 .given .1) at (c .before .before .before .before .before .prepare .ensures)) refl refl refl
+
+same-length-4 : tie.Need-same-length-4
+same-length-4 c = search needs
+
+same-length-5 : tie.Need-same-length-5
+same-length-5 c = search needs
+
+same-length-6 : tie.Need-same-length-6
+same-length-6 c = search needs
+
+returns-4 : tie.Need-returns-4
+returns-4 c = call-read (c .before .before .before .before .before .before .before .before .before .before .before .before .before .before .prepare .ensures) (c .before .before .before .before .before .before .before .before .before .before .count2 .given .1) (c .before .before .before .before .reading .ensures)
+
+pub read-body-spec : {M : Type 1} → statement M
+read-body-spec =
+    tie.close
+    (tie.spec
+    prepare-requires
+    enum-known-at
+    enum-known-count
+    enum-known-at-2
+    enum-known-count-2
+    sub-reading
+    part-reading-start
+    part-reading-end
+    reading-requires
+    same-length
+    returns
+    same-length-2
+    returns-2
+    same-length-3
+    returns-3
+    same-length-4
+    same-length-5
+    same-length-6
+    returns-4)

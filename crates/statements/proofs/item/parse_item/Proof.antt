@@ -1,0 +1,145 @@
+use mathlib.Core.Path.{refl}
+use native.Mathlib.Omega.{arith}
+use denote.Ref.{now}
+use lib.ListN.{length}
+use Rattle.grammar.specs.Reading.{anInvocation, aBuiltin}
+use Rattle.grammar.specs.Records.{simpleRecords}
+use Rattle.statements.specs.Answers.{simpleAnswer, simpleArguments}
+use Rattle.statements.specs.Item.{OneRead, PushRead, RefusedRead}
+use Rattle.statements.proofs.Pieces.{refused-parsed}
+use Rattle.statements.proofs.StatementLaws.{one-parsed, push-parsed, list-parsed, listed-inside}
+use borrow.Author.Needs.{needs}
+use Rattle.statements.proofs.item.parse_item.Statement.{statement}
+use Rattle.statements.proofs.item.parse_item.Tie as tie
+
+one-item-requires : tie.Need-one-item-requires
+one-item-requires c κs = search needs
+
+enum-known-x : tie.Need-enum-known-x
+enum-known-x c = search needs
+
+put-one-requires : tie.Need-put-one-requires
+put-one-requires c κs =
+    let h : OneRead (c .before .before .before .before .before .before .before .before .before .before .args .s .at) _ _ _ = rw (c .before .before .x .given .1) at (c .before .before .before .before .one-item .ensures) in
+    let g = c .before .before .before .before .before .before .before .before .before .before .pre in
+    record { small = record { at = omega arith; statements = omega arith; arguments = omega arith; statementsBefore = g .statementsBefore; argumentsBefore = g .argumentsBefore; end = omega arith; own = omega arith; place = omega arith }; before = omega arith; own = omega arith }
+
+enum-known-bytes : tie.Need-enum-known-bytes
+enum-known-bytes c = search needs
+
+put-push-requires : tie.Need-put-push-requires
+put-push-requires c κs =
+    let h : PushRead (c .before .before .before .before .before .before .before .before .before .before .args .takes) (c .before .before .before .before .before .before .before .before .before .before .args .s .at) _ _ _ _ = rw (c .before .before .bytes .given .1) at (c .before .before .before .before .one-item .ensures) in
+    let g = c .before .before .before .before .before .before .before .before .before .before .pre in
+    search needs
+
+enum-told : tie.Need-enum-told
+enum-told c = search needs
+
+add-parse-macro-call-args : tie.Need-add-parse-macro-call-args
+add-parse-macro-call-args c = search needs
+
+parse-macro-call-args-requires : tie.Need-parse-macro-call-args-requires
+parse-macro-call-args-requires c κs =
+    let h = rw (c .before .enum-told .given .1) at (c .before .before .before .one-item .ensures) in
+    let g = c .before .before .before .before .before .before .before .before .before .pre in
+    (record { few = g .few; inside = omega (arith, h .0) }, omega arith)
+
+put-called-requires : tie.Need-put-called-requires
+put-called-requires c κs =
+    let g = c .before .before .before .before .before .before .before .before .before .before .before .before .before .pre in
+    (record { at = omega arith; statements = omega arith; arguments = omega arith; statementsBefore = g .statementsBefore; argumentsBefore = g .argumentsBefore; end = omega arith; own = omega arith; place = omega arith }, (omega arith, listed-inside (c .before .before .before .before .before .before .before .before .before .before .before .before .before .args .s) _ (c .before .before .before .parse-macro-call-args .ensures) (g .few) (omega arith)))
+
+enum-told-2 : tie.Need-enum-told-2
+enum-told-2 c = search needs
+
+add-parse-args : tie.Need-add-parse-args
+add-parse-args c = search needs
+
+parse-args-requires : tie.Need-parse-args-requires
+parse-args-requires c κs =
+    let h = rw (c .before .enum-told2 .given .1) at (c .before .before .before .one-item .ensures) in
+    let g = c .before .before .before .before .before .before .before .before .before .pre in
+    (record { few = g .few; inside = omega (arith, h .0) }, omega arith)
+
+put-called-requires-2 : tie.Need-put-called-requires-2
+put-called-requires-2 c κs =
+    let g = c .before .before .before .before .before .before .before .before .before .before .before .before .before .pre in
+    (record { at = omega arith; statements = omega arith; arguments = omega arith; statementsBefore = g .statementsBefore; argumentsBefore = g .argumentsBefore; end = omega arith; own = omega arith; place = omega arith }, (omega arith, listed-inside (c .before .before .before .before .before .before .before .before .before .before .before .before .before .args .s) _ (c .before .before .before .parse-args .ensures) (g .few) (omega arith)))
+
+enum-known-c : tie.Need-enum-known-c
+enum-known-c c = search needs
+
+same-length : tie.Need-same-length
+same-length c = search needs
+
+returns : tie.Need-returns
+returns c =
+    let a = c .before .before .before .before .before .before .before .before .before .before .before .before .before .args in
+    one-parsed (a .takes) (a .i) (a .a) (length (now (a .kept))) (rw (c .before .before .before .before .before .x .given .1) at (c .before .before .before .before .before .before .before .one-item .ensures)) (c .before .before .put-one .ensures)
+
+same-length-2 : tie.Need-same-length-2
+same-length-2 c = search needs
+
+returns-2 : tie.Need-returns-2
+returns-2 c =
+    let a = c .before .before .before .before .before .before .before .before .before .before .before .before .before .args in
+    push-parsed (a .takes) (a .i) (a .a) (length (now (a .kept))) (rw (c .before .before .before .before .before .bytes .given .1) at (c .before .before .before .before .before .before .before .one-item .ensures)) (c .before .before .put-push .ensures)
+
+same-length-3 : tie.Need-same-length-3
+same-length-3 c = search needs
+
+same-length-4 : tie.Need-same-length-4
+same-length-4 c = search needs
+
+returns-3 : tie.Need-returns-3
+returns-3 c =
+    let a = c .before .before .before .before .before .before .before .before .before .before .before .before .before .before .before .before .args in
+    list-parsed (a .takes) (a .i) (a .a) (length (now (a .kept))) anInvocation _ _ 4 ((rw (c .before .before .before .before .before .before .before .before .enum-told .given .1) at (c .before .before .before .before .before .before .before .before .before .before .one-item .ensures)) .1) (c .before .before .before .before .before .before .parse-macro-call-args .ensures) (c .before .before .put-called .ensures) refl refl refl
+
+same-length-5 : tie.Need-same-length-5
+same-length-5 c = search needs
+
+same-length-6 : tie.Need-same-length-6
+same-length-6 c = search needs
+
+returns-4 : tie.Need-returns-4
+returns-4 c =
+    let a = c .before .before .before .before .before .before .before .before .before .before .before .before .before .before .before .before .args in
+    list-parsed (a .takes) (a .i) (a .a) (length (now (a .kept))) aBuiltin _ _ 8 ((rw (c .before .before .before .before .before .before .before .before .enum-told2 .given .1) at (c .before .before .before .before .before .before .before .before .before .before .one-item .ensures)) .1) (c .before .before .before .before .before .before .parse-args .ensures) (c .before .before .put-called2 .ensures) refl refl refl
+
+returns-5 : tie.Need-returns-5
+returns-5 c =
+    let a = c .before .before .before .before .before .before .before .before .before .args in
+    let h : RefusedRead _ (c .before .c .given .0 .0) (c .before .c .given .0 .1 .0) = rw (c .before .c .given .1) at (c .before .before .before .one-item .ensures) in
+    refused-parsed (simpleAnswer (a .takes)) simpleRecords simpleArguments (a .i) (a .a) (h .why) (h .place) (h .is) refl (h .number) (h .cursor)
+
+pub parse-item-spec : {M : Type 1} → statement M
+parse-item-spec =
+    tie.close
+    (tie.spec
+    one-item-requires
+    enum-known-x
+    put-one-requires
+    enum-known-bytes
+    put-push-requires
+    enum-told
+    add-parse-macro-call-args
+    parse-macro-call-args-requires
+    put-called-requires
+    enum-told-2
+    add-parse-args
+    parse-args-requires
+    put-called-requires-2
+    enum-known-c
+    same-length
+    returns
+    same-length-2
+    returns-2
+    same-length-3
+    same-length-4
+    returns-3
+    same-length-5
+    same-length-6
+    returns-4
+    returns-5)

@@ -1,0 +1,53 @@
+-- How the entry's parts answer: the settling of what was read, and the reading of a body into zeroed tables.
+use Prim.Native.Nat.{ℕ, _/_}
+use mathlib.Core.Path.{_≡_}
+use mathlib.Core.Bool.{cond}
+use mathlib.Core.List.{List}
+use lib.ListN.{length, replicate}
+use lib.Dec.{ltb}
+use Rattle.tokens.specs.Token.{view}
+use Rattle.grammar.specs.Rules.{base}
+use Rattle.grammar.specs.Reader.{bodyAt}
+use Rattle.grammar.specs.Reading.{NONE}
+use Rattle.grammar.specs.Records.{statementRecords, argumentRecords}
+use Rattle.statements.specs.declared.item.Tally.{Tally}
+use Rattle.statements.specs.declared.item.Items.{Items}
+use Rattle.statements.specs.declared.item.Items.the-variants as items
+use Rattle.statements.specs.declared.entry.Body.{Body}
+use Rattle.statements.specs.declared.entry.Body.the-variants.{NotWellFormed, KeptTooShort, StartOutside, Refused, StatementsTooSmall, ArgumentsTooSmall, Read}
+use Rattle.statements.specs.Call.{afterReading, recordsOf, tableAfter}
+
+abbrev pub zeros : ℕ → List ℕ
+zeros n = replicate n 0
+
+abbrev pub lengthOf : Tally → ℕ
+lengthOf t = cond (t .plain) (t .bytes) NONE
+
+-- the answer for what was read, where the tables have so many words
+abbrev pub settledItems : Items → ℕ → ℕ → Body
+settledItems (items.Refused c q) statements arguments = Refused c q
+settledItems (items.Done t) statements arguments =
+    cond (ltb (statements / 8) (t .statements)) (StatementsTooSmall (t .statements))
+    (cond (ltb (arguments / 7) (t .arguments)) (ArgumentsTooSmall (t .arguments))
+    (Read (t .at) (t .statements) (t .arguments) (lengthOf t)))
+
+-- a table after it: as it was where the body is read, else zero
+abbrev pub tableLeft : Body → List ℕ → List ℕ
+tableLeft (Read cursor s n size) table = table
+tableLeft (NotWellFormed at) table = zeros (length table)
+tableLeft (KeptTooShort count) table = zeros (length table)
+tableLeft (StartOutside at) table = zeros (length table)
+tableLeft (Refused c q) table = zeros (length table)
+tableLeft (StatementsTooSmall need) table = zeros (length table)
+tableLeft (ArgumentsTooSmall need) table = zeros (length table)
+
+pub record Settled (read : Items) (statements arguments : List ℕ) (r : Body) (statements′ arguments′ : List ℕ) : Type 0 where
+  pub answer : r ≡ settledItems read (length statements) (length arguments)
+  pub statementTable : statements′ ≡ tableLeft r statements
+  pub argumentTable : arguments′ ≡ tableLeft r arguments
+
+-- the body from a start of a kept list
+pub record BodyRead (text words kept : List ℕ) (start : ℕ) (statements arguments : List ℕ) (r : Body) (statements′ arguments′ : List ℕ) : Type 0 where
+  pub answer : r ≡ afterReading (bodyAt base (view text words kept) start) start (length statements) (length arguments)
+  pub statementTable : statements′ ≡ tableAfter r (recordsOf (statementRecords 0 0) (bodyAt base (view text words kept) start)) statements
+  pub argumentTable : arguments′ ≡ tableAfter r (recordsOf argumentRecords (bodyAt base (view text words kept) start)) arguments

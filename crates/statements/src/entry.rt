@@ -1,0 +1,111 @@
+// The entry for one body.
+use crate::body::parse_body;
+use crate::item::Items;
+use crate::item::Tally;
+use tokens::Door;
+use tokens::clear;
+use tokens::prepare;
+ghost use Prim.Native.Nat.{_≤_};
+ghost use mathlib.Core.Path.{_≡_};
+ghost use lib.ListN.{length};
+ghost use Rattle.statements.specs.Answers.{Place};
+ghost use Rattle.statements.specs.Call.{BodyCall};
+ghost use Rattle.statements.specs.Settled.{zeros, lengthOf, Settled, BodyRead};
+
+// What a body call answers.
+pub enum Body {
+    // 30, 35 and 31, at the door.
+    NotWellFormed(usize),
+    KeptTooShort(usize),
+    StartOutside(usize),
+    // 1 to 13: number and cursor.
+    Refused(u32, usize),
+    // 33 and 34: the records needed.
+    StatementsTooSmall(usize),
+    ArgumentsTooSmall(usize),
+    // The cursor, the statements, the arguments and the plain length.
+    Read(usize, usize, usize, usize),
+}
+
+// The plain length: the bytes where all statements have a length, else NONE.
+fn plain_length(t: Tally) -> usize
+    ensures { λ r. ⌜ r ≡ lengthOf t ⌝ }
+{
+    if t.plain { t.bytes } else { 4294967295 }
+}
+
+// Both tables zero: no records.
+fn clear_both(statements: &mut [u32], arguments: &mut [u32])
+    ensures { λ _. ⌜ (now (statements .exit) ≡ zeros (length (now (statements .entry)))) × (now (arguments .exit) ≡ zeros (length (now (arguments .entry)))) ⌝ }
+{
+    clear(statements);
+    clear(arguments);
+}
+
+// The answer for what was read: only input that is otherwise accepted has a table called small. After every refusal both tables are zero.
+fn settle(read: Items, statements: &mut [u32], arguments: &mut [u32]) -> Body
+    ensures { λ r. ⌜ Settled read (now (statements .entry)) (now (arguments .entry)) r (now (statements .exit)) (now (arguments .exit)) ⌝ }
+{
+    match read {
+        Items::Refused(c, q) => {
+            clear_both(statements, arguments);
+            Body::Refused(c, q)
+        }
+        Items::Done(t) => {
+            let m = t.statements;
+            let n = t.arguments;
+            if statements.len() / 8 < m {
+                clear_both(statements, arguments);
+                return Body::StatementsTooSmall(m);
+            }
+            if arguments.len() / 7 < n {
+                clear_both(statements, arguments);
+                return Body::ArgumentsTooSmall(n);
+            }
+            Body::Read(t.at, m, n, plain_length(t))
+        }
+    }
+}
+
+// The body from a start of the kept list, into tables that are zeroed first.
+fn reading(
+    text: &[u8],
+    tokens: &[u32],
+    kept: &[u32],
+    start: usize,
+    statements: &mut [u32],
+    arguments: &mut [u32],
+) -> Body
+    requires { ⌜ Place (now kept) start ⌝ }
+    ensures { λ r. ⌜ BodyRead (now (text .entry)) (now (tokens .entry)) (now (kept .entry)) start (now (statements .entry)) (now (arguments .entry)) r (now (statements .exit)) (now (arguments .exit)) ⌝ }
+{
+    clear_both(statements, arguments);
+    let s = Tally {
+        at: start,
+        statements: 0,
+        arguments: 0,
+        bytes: 0,
+        plain: true,
+    };
+    let read = parse_body(text, tokens, kept, s, statements, arguments, 0, 0);
+    settle(read, statements, arguments)
+}
+
+// Reads one body from place `start` of the kept tokens. Everything lent is tested first; only then the kept list is written, and the tables.
+pub fn read_body(
+    text: &[u8],
+    tokens: &[u32],
+    start: usize,
+    kept: &mut [u32],
+    statements: &mut [u32],
+    arguments: &mut [u32],
+) -> Body
+    ensures { λ r. ⌜ BodyCall (now (text .entry)) (now (tokens .entry)) start (now (kept .entry)) (now (statements .entry)) (now (arguments .entry)) r (now (kept .exit)) (now (statements .exit)) (now (arguments .exit)) ⌝ }
+{
+    match prepare(text, tokens, start, kept) {
+        Door::NotWellFormed(at) => Body::NotWellFormed(at),
+        Door::KeptTooShort(count) => Body::KeptTooShort(count),
+        Door::StartOutside(at) => Body::StartOutside(at),
+        Door::Ready(count) => reading(text, tokens, &kept[0..count], start, statements, arguments),
+    }
+}

@@ -1,0 +1,356 @@
+// Statements, one item at a time: a reader that writes nothing, the writers of its records, and `parse_item` over both.
+use crate::argument::Sort;
+use crate::list::ArgList;
+use crate::list::parse_args;
+use crate::list::parse_macro_call_args;
+use tokens::extra_at;
+use tokens::is_value_push;
+use tokens::kind_at;
+use tokens::push_overflows;
+use tokens::push_size;
+use tokens::put_record;
+use tokens::significant_bytes;
+use tokens::text_at;
+ghost use Prim.Native.Nat.{_+_, _≤_};
+ghost use mathlib.Core.Path.{_≡_};
+ghost use mathlib.Core.Bool.{_&&_};
+ghost use lib.ListN.{length};
+ghost use Rattle.tokens.specs.Kind.{CloseBracket, RightAngle};
+ghost use Rattle.tokens.specs.Token.{kindAt, extraAt, textAt, view};
+ghost use Rattle.tokens.specs.Table.{put};
+ghost use Rattle.grammar.specs.Reader.{item};
+ghost use Rattle.statements.specs.Answers.{Place, Counting, SimpleParsed, tokensFrom};
+ghost use Rattle.statements.specs.Item.{statementWords, simpleWords, further, Small, enclosedItem, opcodeItem, identItem, ItemRead, OnePut, PushPut, CalledPut, listInside, LoneSmall};
+
+// How far the reading is: the next place, the records written so far, and the bytes of the statements so far, which count while all of them have a length.
+pub struct Tally {
+    pub at: usize,
+    pub statements: usize,
+    pub arguments: usize,
+    pub bytes: usize,
+    pub plain: bool,
+}
+
+// The tally behind what was read; or a refusal's number and cursor.
+pub enum Items {
+    Done(Tally),
+    Refused(u32, usize),
+}
+
+// A statement's eight words.
+pub struct Statement {
+    pub ty: u32,
+    pub first: u32,
+    pub end: u32,
+    pub inner: u32,
+    pub inners: u32,
+    pub argument: u32,
+    pub arguments: u32,
+    pub place: u32,
+}
+
+// A statement without arguments as it is read: its type, the place behind it, that of its name or value, its bytes, and whether it has a length.
+pub struct Lone {
+    pub ty: u32,
+    pub end: usize,
+    pub place: usize,
+    pub bytes: usize,
+    pub plain: bool,
+}
+
+// What stands at a place: one statement; a value push, taking so many bytes, with its literal; a name with a call list behind it; a builtin, whose list
+// has yet to be looked at; or a refusal's number and cursor.
+pub enum Item {
+    One(Lone),
+    Push(usize),
+    Call,
+    Builtin,
+    Refused(u32, usize),
+}
+
+// ---- reading
+
+// A name between two signs, the opening one at p.
+fn enclosed(tokens: &[u32], kept: &[u32], p: usize, wrong: u32, close: u32, ty: u32) -> Item
+    requires { ⌜ Place (now kept) p ⌝ }
+    ensures { λ r. ⌜ r ≡ enclosedItem wrong close ty p (kindAt (now (tokens .entry)) (now (kept .entry)) (p + 1)) (kindAt (now (tokens .entry)) (now (kept .entry)) (p + 2)) ⌝ }
+{
+    if kind_at(tokens, kept, p + 1) != 38 {
+        return Item::Refused(wrong, p + 1);
+    }
+    if kind_at(tokens, kept, p + 2) != close {
+        return Item::Refused(1, p + 2);
+    }
+    Item::One(Lone {
+        ty: ty,
+        end: p + 3,
+        place: p + 1,
+        bytes: 0,
+        plain: false,
+    })
+}
+
+// `[` Ident `]`, from its bracket.
+pub fn parse_constant_push(tokens: &[u32], kept: &[u32], p: usize) -> Item
+    requires { ⌜ Place (now kept) p ⌝ }
+    ensures { λ r. ⌜ r ≡ enclosedItem 12 CloseBracket 6 p (kindAt (now (tokens .entry)) (now (kept .entry)) (p + 1)) (kindAt (now (tokens .entry)) (now (kept .entry)) (p + 2)) ⌝ }
+{
+    enclosed(tokens, kept, p, 12, 32, 6)
+}
+
+// `<` Ident `>`, from its angle.
+pub fn parse_arg_call(tokens: &[u32], kept: &[u32], p: usize) -> Item
+    requires { ⌜ Place (now kept) p ⌝ }
+    ensures { λ r. ⌜ r ≡ enclosedItem 13 RightAngle 7 p (kindAt (now (tokens .entry)) (now (kept .entry)) (p + 1)) (kindAt (now (tokens .entry)) (now (kept .entry)) (p + 2)) ⌝ }
+{
+    enclosed(tokens, kept, p, 13, 34, 7)
+}
+
+// The opcode at p; where a value push takes its literal, with that.
+fn opcode_item(text: &[u8], tokens: &[u32], kept: &[u32], takes: bool, p: usize) -> Item
+    requires { ⌜ Place (now kept) p ⌝ }
+    ensures { λ r. ⌜ r ≡ opcodeItem takes p (extraAt (now (tokens .entry)) (now (kept .entry)) p) (kindAt (now (tokens .entry)) (now (kept .entry)) (p + 1)) (textAt (now (text .entry)) (now (tokens .entry)) (now (kept .entry)) (p + 1)) ⌝ }
+{
+    if !takes {
+        return Item::One(Lone {
+            ty: 2,
+            end: p + 1,
+            place: p,
+            bytes: 1,
+            plain: true,
+        });
+    }
+    let byte = extra_at(tokens, kept, p);
+    if !is_value_push(byte) {
+        return Item::One(Lone {
+            ty: 2,
+            end: p + 1,
+            place: p,
+            bytes: 1,
+            plain: true,
+        });
+    }
+    if kind_at(tokens, kept, p + 1) != 40 {
+        return Item::Refused(4, p + 1);
+    }
+    if push_overflows(byte, text_at(text, tokens, kept, p + 1)) {
+        return Item::Refused(4, p + 2);
+    }
+    Item::Push(push_size(byte))
+}
+
+// The Ident at p: a call if a `(` stands behind it, else a label call.
+fn ident_item(tokens: &[u32], kept: &[u32], p: usize) -> Item
+    requires { ⌜ Place (now kept) p ⌝ }
+    ensures { λ r. ⌜ r ≡ identItem p (kindAt (now (tokens .entry)) (now (kept .entry)) (p + 1)) ⌝ }
+{
+    if kind_at(tokens, kept, p + 1) == 27 {
+        return Item::Call;
+    }
+    Item::One(Lone {
+        ty: 3,
+        end: p + 1,
+        place: p,
+        bytes: 3,
+        plain: true,
+    })
+}
+
+// The item at p, up to the list that it may have.
+fn one_item(text: &[u8], tokens: &[u32], kept: &[u32], takes: bool, wrong: u32, p: usize) -> Item
+    requires { ⌜ Place (now kept) p ⌝ }
+    ensures { λ r. ⌜ ItemRead takes p (length (now (kept .entry))) (view (now (text .entry)) (now (tokens .entry)) (now (kept .entry)))
+        (item takes wrong p (tokensFrom (now (text .entry)) (now (tokens .entry)) (now (kept .entry)) p)) r ⌝ }
+{
+    let k = kind_at(tokens, kept, p);
+    match k {
+        40 => {
+            let n = significant_bytes(text_at(text, tokens, kept, p));
+            Item::One(Lone {
+                ty: 1,
+                end: p + 1,
+                place: p,
+                bytes: n + 1,
+                plain: true,
+            })
+        }
+        41 => opcode_item(text, tokens, kept, takes, p),
+        38 => ident_item(tokens, kept, p),
+        31 => parse_constant_push(tokens, kept, p),
+        33 => parse_arg_call(tokens, kept, p),
+        44 => Item::Builtin,
+        _ => Item::Refused(wrong, p),
+    }
+}
+
+// ---- writing
+
+// The tally behind a statement that ends at `end`.
+fn moved(s: Tally, end: usize, arguments: usize, bytes: usize, plain: bool) -> Tally
+    requires { ⌜ (s .statements ≤ 65536) × (s .bytes ≤ 4194304) × (bytes ≤ 4194304) ⌝ }
+    ensures { λ r. ⌜ r ≡ further s end arguments bytes plain ⌝ }
+{
+    if s.plain {
+        return Tally {
+            at: end,
+            statements: s.statements + 1,
+            arguments: arguments,
+            bytes: s.bytes + bytes,
+            plain: plain,
+        };
+    }
+    Tally {
+        at: end,
+        statements: s.statements + 1,
+        arguments: arguments,
+        bytes: s.bytes + bytes,
+        plain: false,
+    }
+}
+
+// Statement record number n.
+pub fn put_statement(statements: &mut [u32], n: usize, s: Statement)
+    ensures { λ _. ⌜ now (statements .exit) ≡ put 8 (now (statements .entry)) n (statementWords s) ⌝ }
+{
+    let words = [
+        s.ty,
+        s.first,
+        s.end,
+        s.inner,
+        s.inners,
+        s.argument,
+        s.arguments,
+        s.place,
+    ];
+    put_record(statements, n, &words);
+}
+
+// The record of a statement that is no label and begins at s.at, as the next one: number i + s.statements of the whole table.
+fn put_simple(
+    statements: &mut [u32],
+    s: Tally,
+    i: usize,
+    a: usize,
+    ty: u32,
+    end: usize,
+    arguments: usize,
+    place: usize,
+)
+    requires { ⌜ Small s i a end arguments place ⌝ }
+    ensures { λ _. ⌜ now (statements .exit) ≡ put 8 (now (statements .entry)) (s .statements) (simpleWords s i a ty end arguments place) ⌝ }
+{
+    let first = s.at as u32;
+    let inner = (i + s.statements + 1) as u32;
+    let argument = (a + s.arguments) as u32;
+    let words = Statement {
+        ty: ty,
+        first: first,
+        end: end as u32,
+        inner: inner,
+        inners: 0,
+        argument: argument,
+        arguments: arguments as u32,
+        place: place as u32,
+    };
+    put_statement(statements, s.statements, words);
+}
+
+// One statement, and the tally behind it.
+fn put_one(statements: &mut [u32], s: Tally, i: usize, a: usize, x: Lone) -> Tally
+    requires { ⌜ LoneSmall s i a x ⌝ }
+    ensures { λ r. ⌜ OnePut (now (statements .entry)) s i a x r (now (statements .exit)) ⌝ }
+{
+    let ty = x.ty;
+    let end = x.end;
+    put_simple(statements, s, i, a, ty, end, 0, x.place);
+    moved(s, end, s.arguments, x.bytes, x.plain)
+}
+
+// A statement with the list of arguments behind it, which is read already; or the list's refusal.
+fn put_called(statements: &mut [u32], s: Tally, i: usize, a: usize, ty: u32, list: ArgList) -> Items
+    requires { ⌜ Small s i a 0 0 0 ⌝ }
+    requires { ⌜ s .bytes ≤ 4194304 ⌝ }
+    requires { ⌜ listInside s list ⌝ }
+    ensures { λ r. ⌜ CalledPut (now (statements .entry)) s i a ty list r (now (statements .exit)) ⌝ }
+{
+    match list {
+        ArgList::Done(m, e) => {
+            let at = s.at;
+            let own = m - s.arguments;
+            put_simple(statements, s, i, a, ty, e, own, at);
+            Items::Done(moved(s, e, m, 0, false))
+        }
+        ArgList::Refused(c, q) => Items::Refused(c, q),
+    }
+}
+
+// A value push at s.at with its literal: two statements. The literal's bytes are the push's.
+fn put_push(statements: &mut [u32], s: Tally, i: usize, a: usize, n: usize) -> Tally
+    requires { ⌜ Small s i a 0 0 0 ⌝ }
+    requires { ⌜ (s .at + 2 ≤ 65536) × (s .statements ≤ s .at) × (s .bytes ≤ 4194000) × (n ≤ 32) ⌝ }
+    ensures { λ r. ⌜ PushPut (now (statements .entry)) s i a n r (now (statements .exit)) ⌝ }
+{
+    let p = s.at + 1;
+    let t = put_one(
+        statements,
+        s,
+        i,
+        a,
+        Lone {
+            ty: 2,
+            end: p,
+            place: s.at,
+            bytes: 1,
+            plain: true,
+        },
+    );
+    put_one(
+        statements,
+        t,
+        i,
+        a,
+        Lone {
+            ty: 1,
+            end: p + 1,
+            place: p,
+            bytes: n,
+            plain: true,
+        },
+    )
+}
+
+// An item at s.at, written from record s.statements and s.arguments of the lent tables on; i and a are the numbers of records before the lent tables.
+// `takes`: a value push takes its literal here; `wrong`: the number for a token that begins no item.
+pub fn parse_item(
+    text: &[u8],
+    tokens: &[u32],
+    kept: &[u32],
+    takes: bool,
+    wrong: u32,
+    s: Tally,
+    statements: &mut [u32],
+    arguments: &mut [u32],
+    i: usize,
+    a: usize,
+) -> Items
+    requires { ⌜ Counting (now kept) s i a ⌝ }
+    ensures { λ r. ⌜ SimpleParsed takes s i a (length (now (kept .entry)))
+        (item takes wrong (s .at) (tokensFrom (now (text .entry)) (now (tokens .entry)) (now (kept .entry)) (s .at)))
+        (now (statements .entry)) (now (arguments .entry)) r (now (statements .exit)) (now (arguments .exit)) ⌝ }
+{
+    let at = s.at;
+    let n = s.arguments;
+    match one_item(text, tokens, kept, takes, wrong, at) {
+        Item::One(x) => Items::Done(put_one(statements, s, i, a, x)),
+        Item::Push(bytes) => Items::Done(put_push(statements, s, i, a, bytes)),
+        Item::Call => {
+            let list = parse_macro_call_args(text, tokens, kept, at + 1, arguments, n);
+            put_called(statements, s, i, a, 4, list)
+        }
+        Item::Builtin => {
+            let list = parse_args(text, tokens, kept, Sort::Builtin, at + 1, arguments, n);
+            put_called(statements, s, i, a, 8, list)
+        }
+        Item::Refused(c, q) => Items::Refused(c, q),
+    }
+}
