@@ -1,4 +1,4 @@
--- The theorems on bodies; docs/GRAMMAR.md says where each stands. First the laws of the reader, then what is read off them.
+-- The theorems on bodies and files; docs/GRAMMAR.md and docs/FILES.md say where each stands. First the laws of the readers, then what is read off them.
 pub mod Lists
 pub mod Holds
 pub mod Sound

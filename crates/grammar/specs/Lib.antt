@@ -1,5 +1,5 @@
--- The grammar of a body and all that is said of it, in the order of document 01. A reader has to believe these files and nothing else of the crate;
--- of Result and Reader only that they compute: what they answer is proved to be what the others say.
+-- The grammar of a body and of a file, and all that is said of them, in the order of document 01. A reader has to believe these files and nothing else of the
+-- crate; of Result, Reader, Typed and FileReader only that they compute: what they answer is proved to be what the others say.
 pub mod Reading
 pub mod Rules
 pub mod Grammar

@@ -1,15 +1,15 @@
 -- What a reader answers at a place of one list, by the kind of the token there. Assumes nothing.
 use Prim.Native.Nat.{ℕ, suc, _+_, _≤_, _<_}
 use mathlib.Core.Path.{_≡_, refl, sym, ap, _∙_}
-use mathlib.Core.Bool.{cond, true, false}
+use mathlib.Core.Bool.{cond, Bool, true, false}
 use mathlib.Core.List.{List, [], _∷_}
 use borrow.Author.Tests.{eq-eqb, ne-eqb, le-ltb}
-use lib.ListN.{drop, length}
+use lib.ListN.{drop, length, drop-of-length-le}
 use lib.Dec.{eqb}
 use Rattle.tokens.specs.Token.{Token, tokenAt, view, KindAt, kindAt, fieldAt}
 use Rattle.tokens.proofs.ViewLaws.{view-kind}
-use Rattle.grammar.specs.Result.{Why, Res, bad, Step, refuse, on, stepped, oneMore, look, choose, expect}
-use Rattle.grammar.proofs.AtPlace.{look-at}
+use Rattle.grammar.specs.Result.{Why, Res, bad, Step, refuse, on, stepped, oneMore, look, choose, expect, many}
+use Rattle.grammar.proofs.AtPlace.{look-at, many-refuses, many-runs-out}
 use native.Mathlib.Numerals.{add-one}
 use mathlib.Core.Logic.{⊎-elim}
 use native.Mathlib.Omega.{arith}
@@ -87,3 +87,13 @@ module _ {A : Type 0} (k : ℕ) (y : Why) (f : Token → ℕ → List Token → 
 
   pub expect-refused : (tokenAt all p .kind ≡ k → ⊥) → expect k y f p (drop p all) ≡ bad y p
   expect-refused e = expect-no p all k y f e
+
+-- a unit of a loop is refused at p, inside the list or past its end
+pub many-bad : {σ A : Type 0} (stop : Token → Bool) (after : σ → A → σ) (unit : σ → ℕ → List Token → Res A) (s : σ) (p : ℕ) (all : List Token) (y : Why) (w : ℕ)
+    → stop (tokenAt all p) ≡ false
+    → unit s p (drop p all) ≡ bad y w
+    → many stop after unit s 0 p (drop p all) ≡ bad y w
+many-bad stop after unit s p all y w e u =
+    ⊎-elim (λ (h : p < length all). many-refuses stop after unit s p all y w h e u)
+    (λ (h : length all ≤ p). many-runs-out stop after unit s p all y w h (ap (unit s p) (sym (drop-of-length-le all h)) ∙ u))
+    (lt-or-le p (length all))

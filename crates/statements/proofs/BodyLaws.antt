@@ -6,14 +6,12 @@ use native.Mathlib.Omega.{arith}
 use mathlib.Core.Path.{_≡_, refl, sym, ap, _∙_}
 use mathlib.Core.Bool.{Bool, true, false, cond, _&&_, and-true, and-assoc}
 use mathlib.Core.List.{List, [], _∷_, _++_, map, map-append, append-nil, append-assoc, flatten}
-use lib.ListN.{length, drop, drop-of-length-le, length-append, length-map}
+use lib.ListN.{length, drop, length-append, length-map}
 use lib.Dec.{eqb}
 use borrow.Author.Tests.{ne-eqb, eqb-true, eqb-false}
-use mathlib.Core.Logic.{⊎-elim}
 use Rattle.tokens.specs.Kind.{Label, CloseBrace, Colon, OpenBrace}
 use Rattle.tokens.specs.Token.{Token, tokenAt, view, KindAt}
 use Rattle.tokens.specs.Table.{put, putAll}
-use Rattle.tokens.proofs.Laws.{lt-or-le}
 use Rattle.tokens.proofs.ViewLaws.{view-kind}
 use Rattle.tokens.proofs.TableLaws.{put-late}
 use Rattle.grammar.specs.Reading.{Simple, Group, Reading}
@@ -23,15 +21,16 @@ use Rattle.grammar.specs.Result.{Why, plain, number, beyond, Res, got, bad, Ste
 use Rattle.grammar.specs.Reader.{itemTable, item, endsItems, items, groupRest, labelGroup, endsGroups, groups, bodyFrom}
 use Rattle.grammar.specs.Records.{simpleRecord, argumentRecord, argumentsOf, groupArguments, simpleRecords, groupRecords, groupCount, statementRecords, argumentRecords, statementCount, argumentCount, allArguments}
 use Rattle.grammar.specs.PlainLength.{mainBytes, innerBytes, groupBytes, allMeasured, groupsMeasured}
-use Rattle.grammar.proofs.AtPlace.{look-at, seq-got, seq-bad, many-ends, many-goes, many-refuses, many-runs-out}
+use Rattle.grammar.proofs.AtPlace.{look-at, seq-got, seq-bad, many-ends, many-goes}
 use Rattle.grammar.proofs.Holds.{Holds, well, NoneOrOne, many-on, many-stop}
 use Rattle.grammar.proofs.Sound.{item-holds, item-some, plain-number, group-holds, group-some}
+use Rattle.grammar.proofs.Recorded.{as-many}
 use Rattle.statements.specs.declared.item.Tally.{Tally}
 use Rattle.statements.specs.declared.item.Items.{Items}
 use Rattle.statements.specs.declared.item.Items.the-variants.{Done, Refused}
 use Rattle.statements.specs.Answers.{Counting, TallyWithin, tallied, partBytes, simpleAnswer, groupsAnswer, bodyAnswer, simpleArguments, groupsArguments, SimpleParsed, GroupsParsed, BodyParsed, flattened, oneGroup}
 use Rattle.statements.specs.Label.{skipped, labelWords, LabelPut, LabelInside, closed, ClosedInside}
-use Rattle.statements.proofs.At.{test-no, kind-here, kind-inside, expect-taken, expect-refused}
+use Rattle.statements.proofs.At.{many-bad, test-no, kind-here, kind-inside, expect-taken, expect-refused}
 use Rattle.statements.proofs.StatementLaws.{tally-same}
 use Rattle.statements.proofs.Pieces.{Piece, no-piece, piece-then, piece-parsed, parsed-piece, refused-parsed}
 
@@ -70,23 +69,27 @@ pub record Walk (Left : Tally → List ℕ → List ℕ → Items → List ℕ �
   pub sameArguments : length ar ≡ length ar₀
   pub onward : (r : Items) (st′ ar′ : List ℕ) → Left t st ar r st′ ar′ → Left t₀ st₀ ar₀ r st′ ar′
 
+-- a turn from t to the next place: it goes forward, and what is promised of the rest behind it is promised from t
+pub record Turn (Left : Tally → List ℕ → List ℕ → Items → List ℕ → List ℕ → Type 0) (t next : Tally) (st ar st₁ ar₁ : List ℕ) : Type 0 where
+  pub forward : t .at < next .at
+  pub step : (r : Items) (st′ ar′ : List ℕ) → Left next st₁ ar₁ r st′ ar′ → Left t st ar r st′ ar′
+
 pub walk-start : {Left : Tally → List ℕ → List ℕ → Items → List ℕ → List ℕ → Type 0} {kept : List ℕ} {i a : ℕ} {t : Tally} {st ar : List ℕ} → Counting kept t i a → Walk Left kept i a t st ar t st ar
 walk-start h = record { counting = h; sameStatements = refl; sameArguments = refl; onward = λ r st ar v. v }
 
--- a turn
 pub walk-step : {Left : Tally → List ℕ → List ℕ → Items → List ℕ → List ℕ → Type 0} {kept : List ℕ} {i a : ℕ} {t₀ t next : Tally} {st₀ ar₀ st ar st₁ ar₁ : List ℕ}
     → Walk Left kept i a t₀ st₀ ar₀ t st ar
     → TallyWithin t (length kept) (Done next)
     → length st₁ ≡ length st
     → length ar₁ ≡ length ar
-    → ((r : Items) (st′ ar′ : List ℕ) → Left next st₁ ar₁ r st′ ar′ → Left t st ar r st′ ar′)
+    → Turn Left t next st ar st₁ ar₁
     → Walk Left kept i a t₀ st₀ ar₀ next st₁ ar₁
-walk-step w h es ea step =
+walk-step w h es ea turn =
     record {
       counting = counting-next (w .counting) h;
       sameStatements = es ∙ w .sameStatements;
       sameArguments = ea ∙ w .sameArguments;
-      onward = λ r st ar v. w .onward r st ar (step r st ar v);
+      onward = λ r st ar v. w .onward r st ar (turn .step r st ar v);
     }
 
 -- ---- two lists of statements one behind the other
@@ -109,10 +112,11 @@ records-append (x ∷ u) v i a =
     let second : a + length (x .args) + length (argumentsOf u) ≡ a + length (x .args ++ argumentsOf u) = omega (arith, length-append (x .args) (argumentsOf u)) in
     ap (λ l. simpleRecord i a x ∷ l) (records-append u v (suc i) (a + length (x .args)) ∙ ap (λ k. simpleRecords (suc i) (a + length (x .args)) u ++ simpleRecords k (a + length (x .args) + length (argumentsOf u)) v) first ∙ ap (λ k. simpleRecords (suc i) (a + length (x .args)) u ++ simpleRecords (i + suc (length u)) k v) second)
 
+-- as many records as statements: the grammar's theorem for a body without labels
 simple-count : (u : List Simple) (i a : ℕ) → length (simpleRecords i a u) ≡ length u
-unfolding simpleRecords
-simple-count [] i a = refl
-simple-count (x ∷ u) i a = ap suc (simple-count u (suc i) (a + length (x .args)))
+unfolding statementRecords statementCount groupRecords groupCount
+simple-count u i a =
+    ap length (sym (append-nil (simpleRecords i a u))) ∙ as-many i a (record { main = u; groups = [] }) .0 ∙ add-zero (length u)
 
 inner-append : (u v : List Simple) → innerBytes (u ++ v) ≡ innerBytes u + innerBytes v
 unfolding innerBytes
@@ -208,19 +212,13 @@ module _ (takes : Bool) (wrong i a size : ℕ) (all : List Token) where
       (ap (map argumentRecord) (arguments-append u (flatten us)) ∙ map-append argumentRecord (argumentsOf u) (argumentsOf (flatten us))))
 
   -- what an item's promise says of the turn
-  pub record Turned (t next : Tally) (st ar st₁ ar₁ : List ℕ) : Type 0 where
-    pub forward : t .at < next .at
-    pub step : (r : Items) (st′ ar′ : List ℕ)
-        → SimpleParsed takes next i a size (flattened (items takes wrong (next .at) (drop (next .at) all))) st₁ ar₁ r st′ ar′
-        → SimpleParsed takes t i a size (flattened (items takes wrong (t .at) (drop (t .at) all))) st ar r st′ ar′
-
   pub items-turn : {t next : Tally} {st ar st₁ ar₁ : List ℕ} → length all ≡ size → endsItems (tokenAt all (t .at)) ≡ false
       → SimpleParsed takes t i a size (item takes wrong (t .at) (drop (t .at) all)) st ar (Done next) st₁ ar₁
-      → Turned t next st ar st₁ ar₁
+      → Turn (ItemsLeft takes wrong i a size all) t next st ar st₁ ar₁
   unfolding items
   items-turn {t} {next} {st} {ar} {st₁} {ar₁} len stop v = go (item takes wrong (t .at) (drop (t .at) all)) refl
     where
-      go : (x : Res (List Simple)) → item takes wrong (t .at) (drop (t .at) all) ≡ x → Turned t next st ar st₁ ar₁
+      go : (x : Res (List Simple)) → item takes wrong (t .at) (drop (t .at) all) ≡ x → Turn (ItemsLeft takes wrong i a size all) t next st ar st₁ ar₁
       go (bad y w) e = absurd (let f : Done next ≡ Refused (number y) (w + beyond y) = v .is ∙ ap (simpleAnswer takes t) e in let z : _≡_ {A = ℕ} 0 1 = cc in omega arith)
       go (got u zero) e = absurd (let f = unit-shape takes wrong (t .at) (drop (t .at) all) u zero e .some in omega arith)
       go (got u (suc n)) e =
@@ -257,10 +255,7 @@ module _ (takes : Bool) (wrong i a size : ℕ) (all : List Token) where
       go (got u k) e = absurd (let f : Refused c q ≡ simpleAnswer takes t (got u k) = v .is ∙ ap (simpleAnswer takes t) e in let z : _≡_ {A = ℕ} 0 1 = cc in omega arith)
       go (bad y w) e =
           let f : Refused c q ≡ Refused (number y) (w + beyond y) = v .is ∙ ap (simpleAnswer takes t) e in
-          let whole : many endsItems forget (λ s. item takes wrong) tt 0 (t .at) (drop (t .at) all) ≡ bad y w =
-          ⊎-elim (λ (h : t .at < length all). many-refuses endsItems forget (λ s. item takes wrong) tt (t .at) all y w h stop e)
-          (λ (h : length all ≤ t .at). many-runs-out endsItems forget (λ s. item takes wrong) tt (t .at) all y w h (ap (item takes wrong (t .at)) (sym (drop-of-length-le all h)) ∙ e))
-          (lt-or-le (t .at) (length all)) in
+          let whole = many-bad endsItems forget (λ s. item takes wrong) tt (t .at) all y w stop e in
           refused-parsed (simpleAnswer takes) simpleRecords simpleArguments i a y w (ap flattened whole) refl (cc) (cc)
 
 -- ---- a label
@@ -387,11 +382,10 @@ group-shaped p ts g (suc k) (well h) = omega arith
 group-tokens : (p : ℕ) (ts : List Token) (g : Group) (k : ℕ) → labelGroup base [] p ts ≡ got g k → 0 < k
 group-tokens p ts g k e = group-shaped p ts g k (rw e at (group-holds base [] p ts))
 
+-- and for one of labels alone
 groups-count : (gs : List Group) (i a : ℕ) → length (groupRecords i a gs) ≡ groupCount gs
-unfolding groupRecords groupCount
-groups-count [] i a = refl
-groups-count (g ∷ gs) i a =
-    omega (arith, length-append (simpleRecords (suc i) a (g .inner)) (groupRecords (suc i + length (g .inner)) (a + length (argumentsOf (g .inner))) gs), simple-count (g .inner) (suc i) a, groups-count gs (suc i + length (g .inner)) (a + length (argumentsOf (g .inner))))
+unfolding statementRecords statementCount simpleRecords argumentsOf
+groups-count gs i a = rw (add-zero i, add-zero a, zero-add) at (as-many i a (record { main = []; groups = gs }) .0)
 
 -- labels are left to read at s
 abbrev pub GroupsLeft : ℕ → ℕ → ℕ → List Token → Tally → List ℕ → List ℕ → Items → List ℕ → List ℕ → Type 0
@@ -418,18 +412,14 @@ module _ (i a size : ℕ) (all : List Token) where
       (rw (n, args, own, append-nil (simpleRecords (suc (i + s .statements)) (a + s .arguments) (g .inner)), add-assoc a (s .arguments) (length (argumentsOf (g .inner)))))
       (rw (args, map-append)))
 
-  pub record Labelled (t next : Tally) (st ar st₁ ar₁ : List ℕ) : Type 0 where
-    pub forward : t .at < next .at
-    pub step : (r : Items) (st′ ar′ : List ℕ) → GroupsLeft i a size all next st₁ ar₁ r st′ ar′ → GroupsLeft i a size all t st ar r st′ ar′
-
   -- what a label's promise says of the turn
   pub groups-turn : {t next : Tally} {st ar st₁ ar₁ : List ℕ} → length all ≡ size → endsGroups (tokenAt all (t .at)) ≡ false
       → GroupsParsed t i a size (oneGroup (labelGroup base [] (t .at) (drop (t .at) all))) st ar (Done next) st₁ ar₁
-      → Labelled t next st ar st₁ ar₁
+      → Turn (GroupsLeft i a size all) t next st ar st₁ ar₁
   unfolding groups
   groups-turn {t} {next} {st} {ar} {st₁} {ar₁} len stop v = go (labelGroup base [] (t .at) (drop (t .at) all)) refl
     where
-      go : (x : Res Group) → labelGroup base [] (t .at) (drop (t .at) all) ≡ x → Labelled t next st ar st₁ ar₁
+      go : (x : Res Group) → labelGroup base [] (t .at) (drop (t .at) all) ≡ x → Turn (GroupsLeft i a size all) t next st ar st₁ ar₁
       go (bad y w) e = absurd (let f : Done next ≡ Refused (number y) (w + beyond y) = v .is ∙ ap (λ x. groupsAnswer t (oneGroup x)) e in let z : _≡_ {A = ℕ} 0 1 = cc in omega arith)
       go (got g zero) e = absurd (let f = group-tokens (t .at) (drop (t .at) all) g zero e in omega arith)
       go (got g (suc n)) e =
@@ -460,10 +450,7 @@ module _ (i a size : ℕ) (all : List Token) where
       go (got g k) e = absurd (let f : Refused c q ≡ groupsAnswer t (got (g ∷ []) k) = v .is ∙ ap (λ x. groupsAnswer t (oneGroup x)) e in let z : _≡_ {A = ℕ} 0 1 = cc in omega arith)
       go (bad y w) e =
           let f : Refused c q ≡ Refused (number y) (w + beyond y) = v .is ∙ ap (λ x. groupsAnswer t (oneGroup x)) e in
-          let whole : many endsGroups remember (labelGroup base) [] 0 (t .at) (drop (t .at) all) ≡ bad y w =
-          ⊎-elim (λ (h : t .at < length all). many-refuses endsGroups remember (labelGroup base) [] (t .at) all y w h stop e)
-          (λ (h : length all ≤ t .at). many-runs-out endsGroups remember (labelGroup base) [] (t .at) all y w h (ap (labelGroup base [] (t .at)) (sym (drop-of-length-le all h)) ∙ e))
-          (lt-or-le (t .at) (length all)) in
+          let whole = many-bad endsGroups remember (labelGroup base) [] (t .at) all y w stop e in
           refused-parsed groupsAnswer groupRecords groupsArguments i a y w whole refl (cc) (cc)
 
 -- ---- the body
@@ -489,6 +476,11 @@ braced {s} {t} {st = st} v h =
 pub closed-inside : {kept : List ℕ} {s : Tally} {i a : ℕ} (r : Items) → Counting kept s i a → TallyWithin s (length kept) r → ClosedInside r
 closed-inside {kept} {i = i} {a = a} (Done t) g h = let n : Counting kept t i a = counting-next g h in (omega arith, omega arith, omega arith)
 closed-inside (Refused c q) g h = tt
+
+-- the closing brace behind what was read
+abbrev pub shut : List Token → Items → Items
+shut all (Done t) = cond (eqb (tokenAt all (t .at) .kind) CloseBrace) (Done (skipped t 1 0 0)) (Refused 5 (t .at))
+shut all (Refused c q) = Refused c q
 
 module _ (i a size : ℕ) (all : List Token) (s : Tally) where
   abbrev rest : List (List Simple) → ℕ → List Token → Res Reading
@@ -517,17 +509,13 @@ module _ (i a size : ℕ) (all : List Token) (s : Tally) where
           refused-parsed bodyAnswer statementRecords argumentRecords i a y w (opened e ∙ ap oneMore (seq-bad (items true 5) rest (s .at + 1) (drop (s .at + 1) all) y w f)) refl (cc) (cc)
 
   -- the macro part, the labels and the closing brace
-  abbrev pub shut : Items → Items
-  shut (Done t) = cond (eqb (tokenAt all (t .at) .kind) CloseBrace) (Done (skipped t 1 0 0)) (Refused 5 (t .at))
-  shut (Refused c q) = Refused c q
-
   finished : {st ar st₁ ar₁ st₂ ar₂ : List ℕ} {t : Tally} {r : Items} (us : List (List Simple)) (n : ℕ)
       → ((q : ℕ) → 0 < tokenAt all q .kind → q < size)
       → tokenAt all (s .at) .kind ≡ OpenBrace
       → items true 5 (s .at + 1) (drop (s .at + 1) all) ≡ got us n
       → SimpleParsed true (skipped s 1 0 0) i a size (got (flatten us) n) st ar (Done t) st₁ ar₁
       → GroupsLeft i a size all t st₁ ar₁ r st₂ ar₂
-      → BodyParsed s i a size (bodyFrom base (s .at) (drop (s .at) all)) st ar (shut r) st₂ ar₂
+      → BodyParsed s i a size (bodyFrom base (s .at) (drop (s .at) all)) st ar (shut all r) st₂ ar₂
   unfolding statementRecords argumentRecords statementCount argumentCount allArguments
   finished {st} {ar} {st₁} {ar₁} {st₂} {ar₂} {t} {r} us n inside e f v w = go (groups base (t .at) (drop (t .at) all)) refl
     where
@@ -555,7 +543,7 @@ module _ (i a size : ℕ) (all : List Token) (s : Tally) where
       behind : bodyFrom base (s .at) (drop (s .at) all) ≡ oneMore (counted n (rest us (t .at) (drop (t .at) all)))
       behind = opened e ∙ ap oneMore (seq-got (items true 5) rest (s .at + 1) n all us f ∙ ap (λ (p : ℕ). counted n (rest us p (drop p all))) (sym at))
 
-      go : (x : Res (List Group)) → groups base (t .at) (drop (t .at) all) ≡ x → BodyParsed s i a size (bodyFrom base (s .at) (drop (s .at) all)) st ar (shut r) st₂ ar₂
+      go : (x : Res (List Group)) → groups base (t .at) (drop (t .at) all) ≡ x → BodyParsed s i a size (bodyFrom base (s .at) (drop (s .at) all)) st ar (shut all r) st₂ ar₂
       go (bad y q) g =
           let told : r ≡ Refused (number y) (q + beyond y) = w .is ∙ ap (groupsAnswer t) g in
           rw told (refused-parsed bodyAnswer statementRecords argumentRecords i a y q (behind ∙ ap (λ x. oneMore (counted n x)) (seq-bad (groups base) (λ gs. expect CloseBrace (plain 5) (λ c q ts. got (record { main = flatten us; groups = gs }) 0)) (t .at) (drop (t .at) all) y q g)) refl refl refl)
@@ -593,14 +581,14 @@ module _ (i a size : ℕ) (all : List Token) (s : Tally) where
       → tokenAt all (s .at) .kind ≡ OpenBrace
       → ItemsLeft true 5 i a size all (skipped s 1 0 0) st ar (Done t) st₁ ar₁
       → GroupsLeft i a size all t st₁ ar₁ r st₂ ar₂
-      → BodyParsed s i a size (bodyFrom base (s .at) (drop (s .at) all)) st ar (shut r) st₂ ar₂
+      → BodyParsed s i a size (bodyFrom base (s .at) (drop (s .at) all)) st ar (shut all r) st₂ ar₂
   body-parsed {st} {ar} {st₁} {ar₁} {st₂} {ar₂} {t} {r} inside e v w = go (items true 5 (s .at + 1) (drop (s .at + 1) all)) refl
     where
-      go : (x : Res (List (List Simple))) → items true 5 (s .at + 1) (drop (s .at + 1) all) ≡ x → BodyParsed s i a size (bodyFrom base (s .at) (drop (s .at) all)) st ar (shut r) st₂ ar₂
+      go : (x : Res (List (List Simple))) → items true 5 (s .at + 1) (drop (s .at + 1) all) ≡ x → BodyParsed s i a size (bodyFrom base (s .at) (drop (s .at) all)) st ar (shut all r) st₂ ar₂
       go (bad y q) f = absurd (let g : Done t ≡ Refused (number y) (q + beyond y) = v .is ∙ ap (λ x. simpleAnswer true (skipped s 1 0 0) (flattened x)) f in let z : _≡_ {A = ℕ} 0 1 = cc in omega arith)
       go (got us n) f = finished us n inside e f (rw f at v) w
 
--- the brace as the code looks for it
-pub shut-is : (text words kept : List ℕ) (i a size : ℕ) (s : Tally) (r : Items) → closed words kept r ≡ shut i a size (view text words kept) s r
-shut-is text words kept i a size s (Done t) = rw (view-kind text words kept (t .at))
-shut-is text words kept i a size s (Refused c q) = refl
+-- as the code looks for it
+pub shut-is : (text words kept : List ℕ) (r : Items) → closed words kept r ≡ shut (view text words kept) r
+shut-is text words kept (Done t) = rw (view-kind text words kept (t .at))
+shut-is text words kept (Refused c q) = refl

@@ -17,7 +17,7 @@ use Rattle.tokens.specs.declared.door.Door.{Door}
 use Rattle.tokens.specs.declared.door.Door.the-variants.{Ready}
 use Rattle.tokens.proofs.DoorLaws.{LetThrough, ready}
 use Rattle.tokens.proofs.Laws.{start-inside}
-use Rattle.tokens.proofs.TableLaws.{Wide, records-then-zeros}
+use Rattle.tokens.proofs.TableLaws.{zeros, Wide, records-then-zeros}
 use Rattle.grammar.specs.Reading.{Reading}
 use Rattle.grammar.specs.Rules.{base}
 use Rattle.grammar.specs.Result.{Res, got, bad, number, beyond}
@@ -33,7 +33,7 @@ use Rattle.statements.specs.declared.entry.Body.{Body}
 use Rattle.statements.specs.declared.entry.Body.the-variants.{Refused, StatementsTooSmall, ArgumentsTooSmall, Read}
 use Rattle.statements.specs.Answers.{Place, BodyParsed}
 use Rattle.statements.specs.Call.{settled, afterDoor, recordsOf, filled, tableAfter, readingAt, BodyCall}
-use Rattle.statements.specs.Settled.{zeros, settledItems, tableLeft, Settled, BodyRead}
+use Rattle.statements.specs.Settled.{settledItems, tableLeft, Settled, BodyRead}
 
 -- ---- the kept list
 

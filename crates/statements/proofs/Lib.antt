@@ -10,3 +10,5 @@ pub mod StatementLaws
 pub mod BodyLaws
 pub mod EntryLaws
 pub mod Fixed
+pub mod Bounds
+pub mod Demand3

@@ -17,9 +17,6 @@ use Rattle.statements.specs.declared.entry.Body.{Body}
 use Rattle.statements.specs.declared.entry.Body.the-variants.{NotWellFormed, KeptTooShort, StartOutside, Refused, StatementsTooSmall, ArgumentsTooSmall, Read}
 use Rattle.statements.specs.Call.{afterReading, recordsOf, tableAfter}
 
-abbrev pub zeros : ℕ → List ℕ
-zeros n = replicate n 0
-
 abbrev pub lengthOf : Tally → ℕ
 lengthOf t = cond (t .plain) (t .bytes) NONE
 
@@ -34,12 +31,12 @@ settledItems (items.Done t) statements arguments =
 -- a table after it: as it was where the body is read, else zero
 abbrev pub tableLeft : Body → List ℕ → List ℕ
 tableLeft (Read cursor s n size) table = table
-tableLeft (NotWellFormed at) table = zeros (length table)
-tableLeft (KeptTooShort count) table = zeros (length table)
-tableLeft (StartOutside at) table = zeros (length table)
-tableLeft (Refused c q) table = zeros (length table)
-tableLeft (StatementsTooSmall need) table = zeros (length table)
-tableLeft (ArgumentsTooSmall need) table = zeros (length table)
+tableLeft (NotWellFormed at) table = replicate (length table) 0
+tableLeft (KeptTooShort count) table = replicate (length table) 0
+tableLeft (StartOutside at) table = replicate (length table) 0
+tableLeft (Refused c q) table = replicate (length table) 0
+tableLeft (StatementsTooSmall need) table = replicate (length table) 0
+tableLeft (ArgumentsTooSmall need) table = replicate (length table) 0
 
 pub record Settled (read : Items) (statements arguments : List ℕ) (r : Body) (statements′ arguments′ : List ℕ) : Type 0 where
   pub answer : r ≡ settledItems read (length statements) (length arguments)

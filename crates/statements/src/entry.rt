@@ -5,12 +5,11 @@ use crate::item::Tally;
 use tokens::Door;
 use tokens::clear;
 use tokens::prepare;
-ghost use Prim.Native.Nat.{_≤_};
 ghost use mathlib.Core.Path.{_≡_};
-ghost use lib.ListN.{length};
+ghost use lib.ListN.{length, replicate};
 ghost use Rattle.statements.specs.Answers.{Place};
 ghost use Rattle.statements.specs.Call.{BodyCall};
-ghost use Rattle.statements.specs.Settled.{zeros, lengthOf, Settled, BodyRead};
+ghost use Rattle.statements.specs.Settled.{lengthOf, Settled, BodyRead};
 
 // What a body call answers.
 pub enum Body {
@@ -36,7 +35,7 @@ fn plain_length(t: Tally) -> usize
 
 // Both tables zero: no records.
 fn clear_both(statements: &mut [u32], arguments: &mut [u32])
-    ensures { λ _. ⌜ (now (statements .exit) ≡ zeros (length (now (statements .entry)))) × (now (arguments .exit) ≡ zeros (length (now (arguments .entry)))) ⌝ }
+    ensures { λ _. ⌜ (now (statements .exit) ≡ replicate (length (now (statements .entry))) 0) × (now (arguments .exit) ≡ replicate (length (now (arguments .entry))) 0) ⌝ }
 {
     clear(statements);
     clear(arguments);

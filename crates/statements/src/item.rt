@@ -13,7 +13,6 @@ use tokens::significant_bytes;
 use tokens::text_at;
 ghost use Prim.Native.Nat.{_+_, _≤_};
 ghost use mathlib.Core.Path.{_≡_};
-ghost use mathlib.Core.Bool.{_&&_};
 ghost use lib.ListN.{length};
 ghost use Rattle.tokens.specs.Kind.{CloseBracket, RightAngle};
 ghost use Rattle.tokens.specs.Token.{kindAt, extraAt, textAt, view};
@@ -291,32 +290,23 @@ fn put_push(statements: &mut [u32], s: Tally, i: usize, a: usize, n: usize) -> T
     ensures { λ r. ⌜ PushPut (now (statements .entry)) s i a n r (now (statements .exit)) ⌝ }
 {
     let p = s.at + 1;
-    let t = put_one(
-        statements,
-        s,
-        i,
-        a,
-        Lone {
-            ty: 2,
-            end: p,
-            place: s.at,
-            bytes: 1,
-            plain: true,
-        },
-    );
-    put_one(
-        statements,
-        t,
-        i,
-        a,
-        Lone {
-            ty: 1,
-            end: p + 1,
-            place: p,
-            bytes: n,
-            plain: true,
-        },
-    )
+    let opcode = Lone {
+        ty: 2,
+        end: p,
+        place: s.at,
+        bytes: 1,
+        plain: true,
+    };
+    let t = put_one(statements, s, i, a, opcode);
+    let end = p + 1;
+    let literal = Lone {
+        ty: 1,
+        end: end,
+        place: p,
+        bytes: n,
+        plain: true,
+    };
+    put_one(statements, t, i, a, literal)
 }
 
 // An item at s.at, written from record s.statements and s.arguments of the lent tables on; i and a are the numbers of records before the lent tables.

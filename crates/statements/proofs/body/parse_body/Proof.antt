@@ -66,7 +66,7 @@ returns-2 c =
     let words = now (a .tokens) in
     let kept = now (a .kept) in
     let v = rw (c .before .before .before .before .before .before .before .before .before .before .before .before .before .before .before .before .before .before .skip .ensures, c .before .before .before .before .before .before .before .before .before .t .given .1) at (c .before .before .before .before .before .before .before .before .before .before .before .before .before .before .before .parse-items .ensures) in
-    rw (c .close .ensures, shut-is text words kept (a .i) (a .a) (length kept) (a .s) (c .before .before .before .before .before .parse-groups .result)) (body-parsed (a .i) (a .a) (length kept) (view text words kept) (a .s) (view-inside text words kept) (sym (kind-here text words kept (a .s .at) (c .before .before .before .before .before .before .before .before .before .before .before .before .before .before .before .before .before .before .before .before .kind-at .ensures)) ∙ c .before .before .before .before .before .before .before .before .before .before .before .before .before .before .before .before .before .before .before .if1 .left) v (c .before .before .before .before .before .parse-groups .ensures))
+    rw (c .close .ensures, shut-is text words kept (c .before .before .before .before .before .parse-groups .result)) (body-parsed (a .i) (a .a) (length kept) (view text words kept) (a .s) (view-inside text words kept) (sym (kind-here text words kept (a .s .at) (c .before .before .before .before .before .before .before .before .before .before .before .before .before .before .before .before .before .before .before .before .kind-at .ensures)) ∙ c .before .before .before .before .before .before .before .before .before .before .before .before .before .before .before .before .before .before .before .if1 .left) v (c .before .before .before .before .before .parse-groups .ensures))
 
 same-length-3 : tie.Need-same-length-3
 same-length-3 c = search needs

@@ -65,7 +65,7 @@ loop-again c =
     let on = groups-go-on text words kept (w .t .at) (c .before .before .before .before .before .before .before .before .before .before .before .kind-at .ensures) (c .before .before .before .before .before .before .before .before .before .before .if1 .left) in
     let v = rw (c .before .next .given .1) at (c .before .before .before .before .before .before .before .parse-label .ensures) in
     let turn = groups-turn (a .i) (a .a) (length kept) (view text words kept) (view-length text words kept) on v in
-    walk-step (w .inv) (v .within) (search needs) (search needs) (turn .step)
+    walk-step (w .inv) (v .within) (search needs) (search needs) turn
 
 enum-known-c : tie.Need-enum-known-c Inv-loop μ-loop
 enum-known-c c = search needs

@@ -81,7 +81,7 @@ loop-again c =
     let on = items-go-on text words kept (w .t .at) (c .before .before .before .before .before .before .before .before .before .before .before .before .kind-at .ensures) (c .before .before .before .before .before .before .before .before .before .before .before .if1 .left) (c .before .before .before .before .before .before .before .before .before .before .if2 .left) in
     let v = rw (c .before .next .given .1) at (c .before .before .before .before .before .before .before .parse-item .ensures) in
     let turn = items-turn (a .takes) (a .wrong) (a .i) (a .a) (length kept) (view text words kept) (view-length text words kept) on v in
-    walk-step (w .inv) (v .within) (search needs) (search needs) (turn .step)
+    walk-step (w .inv) (v .within) (search needs) (search needs) turn
 
 enum-known-c : tie.Need-enum-known-c Inv-loop μ-loop
 enum-known-c c = search needs

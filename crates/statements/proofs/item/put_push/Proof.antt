@@ -9,8 +9,8 @@ add-p c = search needs
 put-one-requires : tie.Need-put-one-requires
 put-one-requires c κs = search needs
 
-add-t13 : tie.Need-add-t13
-add-t13 c = search needs
+add-end : tie.Need-add-end
+add-end c = search needs
 
 put-one-requires-2 : tie.Need-put-one-requires-2
 put-one-requires-2 c κs = rw (c .before .before .before .put-one .ensures .is) (search needs)
@@ -23,4 +23,4 @@ returns c = push-put (c .before .before .before .before .before .before .put-one
 
 pub put-push-spec : {M : Type 1} → statement M
 put-push-spec =
-    tie.close (tie.spec add-p put-one-requires add-t13 put-one-requires-2 same-length returns)
+    tie.close (tie.spec add-p put-one-requires add-end put-one-requires-2 same-length returns)
