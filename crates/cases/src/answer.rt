@@ -114,9 +114,6 @@ fn show(
     out: &mut [u8],
     filled: usize,
 ) -> usize {
-    if !answer.known {
-        return put_text(out, filled, b"X_NotRead\n");
-    }
     let first = put_five(
         out,
         filled,

@@ -1,10 +1,9 @@
 // The call that a case is about. The readers of bodies and of files are called here and nowhere else.
+use definitions::File;
 use statements::Body;
-use tokens::Door;
 
-// The five numbers of an entry's answer; not known: the entry can't be asked yet.
+// The five numbers of an entry's answer.
 pub struct Answer {
-    pub known: bool,
     pub number: usize,
     pub cursor: usize,
     pub c1: usize,
@@ -15,7 +14,6 @@ pub struct Answer {
 // A refusal by document 01's number; its counts are 0.
 fn refusal(number: usize, cursor: usize) -> Answer {
     Answer {
-        known: true,
         number,
         cursor,
         c1: 0,
@@ -24,37 +22,14 @@ fn refusal(number: usize, cursor: usize) -> Answer {
     }
 }
 
-// An accepted case: its cursor and three counts.
+// Accepted: the cursor and three counts.
 fn accepted(cursor: usize, c1: usize, c2: usize, c3: usize) -> Answer {
     Answer {
-        known: true,
         number: 0,
         cursor,
         c1,
         c2,
         c3,
-    }
-}
-
-// What the door lets through is not read yet.
-fn not_read() -> Answer {
-    Answer {
-        known: false,
-        number: 0,
-        cursor: 0,
-        c1: 0,
-        c2: 0,
-        c3: 0,
-    }
-}
-
-// The door's refusals: 30, 35 and 31.
-fn door_answer(text: &[u8], tokens: &[u32], start: usize, kept: &mut [u32]) -> Answer {
-    match tokens::prepare(text, tokens, start, kept) {
-        Door::NotWellFormed(at) => refusal(30, at),
-        Door::KeptTooShort(count) => refusal(35, count),
-        Door::StartOutside(at) => refusal(31, at),
-        Door::Ready(_) => not_read(),
     }
 }
 
@@ -92,5 +67,18 @@ pub fn answer_file(
     statements: &mut [u32],
     arguments: &mut [u32],
 ) -> Answer {
-    door_answer(text, tokens, 0, kept)
+    match definitions::read_file(text, tokens, kept, definitions, statements, arguments) {
+        File::NotWellFormed(at) => refusal(30, at),
+        File::KeptTooShort(count) => refusal(35, count),
+        File::Refused(number, cursor) => refusal(number as usize, cursor),
+        File::DefinitionsTooSmall(need) => refusal(32, need),
+        File::StatementsTooSmall(need) => refusal(33, need),
+        File::ArgumentsTooSmall(need) => refusal(34, need),
+        File::Read(cursor, definitions, statements, arguments) => accepted(
+            cursor,
+            definitions,
+            statements,
+            arguments,
+        ),
+    }
 }

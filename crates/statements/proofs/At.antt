@@ -6,11 +6,13 @@ use mathlib.Core.List.{List, [], _∷_}
 use borrow.Author.Tests.{eq-eqb, ne-eqb, le-ltb}
 use lib.ListN.{drop, length, drop-of-length-le}
 use lib.Dec.{eqb}
-use Rattle.tokens.specs.Token.{Token, tokenAt, view, KindAt, kindAt, fieldAt}
+use Rattle.tokens.specs.Token.{Token, eofToken, tokenAt, view, KindAt, kindAt, fieldAt}
 use Rattle.tokens.proofs.ViewLaws.{view-kind}
 use Rattle.grammar.specs.Result.{Why, Res, bad, Step, refuse, on, stepped, oneMore, look, choose, expect, many}
 use Rattle.grammar.proofs.AtPlace.{look-at, many-refuses, many-runs-out}
 use native.Mathlib.Numerals.{add-one}
+use native.Mathlib.Nat.{add-zero}
+use lib.Seq.{getD-drop}
 use mathlib.Core.Logic.{⊎-elim}
 use native.Mathlib.Omega.{arith}
 use Rattle.tokens.proofs.Laws.{lt-or-le}
@@ -19,12 +21,16 @@ use Rattle.tokens.proofs.Laws.{lt-or-le}
 pub kind-is : (text : List ℕ) {words kept : List ℕ} {q k : ℕ} (p : ℕ) → KindAt words kept q k → q ≡ p → tokenAt (view text words kept) p .kind ≡ k
 kind-is text {words} {kept} p h e = view-kind text words kept p ∙ rw (← e) (sym (h .is))
 
+-- the first of the tokens from p on is the one at p
+pub token-here : (p : ℕ) (all : List Token) → tokenAt (drop p all) 0 ≡ tokenAt all p
+token-here p all = getD-drop p all 0 eofToken ∙ ap (tokenAt all) (add-zero p)
+
 -- none of a table's kinds
 abbrev pub NoneOf : {S : Type 0} → List (ℕ × S) → ℕ → Type 0
 NoneOf [] k = Unit {0}
 NoneOf (e ∷ table) k = (k ≡ e .0 → ⊥) × NoneOf table k
 
-choose-none : {S : Type 0} (table : List (ℕ × S)) (d : S) (k : ℕ) → NoneOf table k → choose table d k ≡ d
+pub choose-none : {S : Type 0} (table : List (ℕ × S)) (d : S) (k : ℕ) → NoneOf table k → choose table d k ≡ d
 unfolding choose
 choose-none [] d k h = refl
 choose-none (e ∷ table) d k h = ap (λ b. cond b (e .1) (choose table d k)) (ne-eqb k (e .0) (h .0)) ∙ choose-none table d k (h .1)

@@ -1,0 +1,231 @@
+-- Laws of the entry: the kept numbers as a part of the kept list, tables that hold records and zeros, and each way out. Assumes nothing.
+use Prim.Native.Nat.{ℕ, _+_, _-_, _/_, _≤_, _<_}
+use mathlib.Core.Path.{_≡_, refl, sym, ap, _∙_}
+use mathlib.Core.Bool.{true}
+use mathlib.Core.List.{List, [], _++_, flatten}
+use native.Mathlib.Omega.{arith}
+use native.Mathlib.Nat.{sub-zero, zero-add}
+use borrow.Author.Tests.{lt-ltb, le-ltb}
+use lib.ListN.{length, replicate, take, drop, length-replicate}
+use lib.Seq.{sets, sets-eq, length-sets, take-at}
+use Rattle.tokens.specs.Table.{putAll}
+use Rattle.tokens.specs.Token.{view}
+use Rattle.tokens.specs.Kept.{keptOf}
+use Rattle.tokens.specs.Door.{door, Prepared, keptAfter}
+use Rattle.tokens.specs.declared.door.Door.{Door}
+use Rattle.tokens.specs.declared.door.Door.the-variants as doors
+use Rattle.tokens.proofs.Laws.{start-inside}
+use Rattle.tokens.proofs.TableLaws.{Wide, records-then-zeros}
+use Rattle.tokens.proofs.DoorLaws.{ready, LetThrough, file-not-31}
+use Rattle.grammar.specs.Result.{Res, got, bad}
+use Rattle.grammar.specs.Rules.{base}
+use Rattle.grammar.specs.FileReading.{Definition}
+use Rattle.grammar.specs.FileReader.{fileAnswer, fileAt}
+use Rattle.grammar.specs.FileRecords.{definitionRecords, fileStatements, fileArguments, fileArgumentRecords, fileStatementCount}
+use Rattle.statements.specs.Call.{filled}
+use Rattle.definitions.specs.declared.file.FileRead.{FileRead}
+use Rattle.definitions.specs.declared.file.FileRead.the-variants as files
+use Rattle.definitions.specs.declared.entry.File.{File}
+use Rattle.definitions.specs.declared.entry.File.the-variants as answers
+use Rattle.definitions.specs.Answers.{Kept, FileParsed}
+use Rattle.definitions.specs.Call.{settled, FileTaken, FileCall}
+use Rattle.definitions.proofs.RecordLaws.{definition-count, statement-count, argument-count, definition-wide, statement-wide, argument-wide, wide-flat}
+use Rattle.definitions.proofs.Lined.{lined-kept, kept-few}
+
+-- ---- tables
+
+-- only zeros
+pub filled-none : (n : ℕ) → filled n [] ≡ replicate n 0
+unfolding flatten
+filled-none n = ap (λ (k : ℕ). replicate k 0) (sub-zero n)
+
+-- the records, then zeros
+filled-records : (w : ℕ) (rs : List (List ℕ)) (len : ℕ) → 0 < w → Wide w rs → length rs ≤ len / w → putAll w (replicate len 0) 0 rs ≡ filled len rs
+filled-records w rs len p h room =
+    records-then-zeros w rs len p h (start-inside len (length rs) w p room)
+    ∙ ap (λ (n : ℕ). flatten rs ++ replicate (len - n) 0) (sym (wide-flat w rs h))
+
+-- ---- each way out of `read_kept`: the tables were zeroed before the reading, and are again after a refusal
+
+-- the table t was zeroed to z
+abbrev pub Zeroed : List ℕ → List ℕ → Type 0
+Zeroed t z = z ≡ replicate (length t) 0
+
+-- what it became keeps its length
+as-long : (t z u : List ℕ) → Zeroed t z → length u ≡ length z → length u ≡ length t
+as-long t z u e same = same ∙ ap length e ∙ length-replicate (length t) 0
+
+zero-again : (t u v : List ℕ) → length u ≡ length t → Zeroed u v → v ≡ filled (length t) []
+zero-again t u v same f = f ∙ ap (λ (n : ℕ). replicate n 0) same ∙ sym (filled-none (length t))
+
+module _ (de st ar de₀ st₀ ar₀ de₁ st₁ ar₁ : List ℕ) (zeroed : Zeroed de de₀ × Zeroed st st₀ × Zeroed ar ar₀)
+    (de-kept : length de₁ ≡ length de₀) (st-kept : length st₁ ≡ length st₀) (ar-kept : length ar₁ ≡ length ar₀) where
+  de-same : length de₁ ≡ length de
+  de-same = as-long de de₀ de₁ (zeroed .0) de-kept
+
+  st-same : length st₁ ≡ length st
+  st-same = as-long st st₀ st₁ (zeroed .1) st-kept
+
+  ar-same : length ar₁ ≡ length ar
+  ar-same = as-long ar ar₀ ar₁ (zeroed .2) ar-kept
+
+  module _ (de₂ st₂ ar₂ : List ℕ) (again : Zeroed de₁ de₂ × Zeroed st₁ st₂ × Zeroed ar₁ ar₂) where
+    -- 1 to 21
+    pub taken-refused : (read : Res (List Definition)) (c q : ℕ) (r : FileRead) → FileParsed read de₀ st₀ ar₀ r de₁ st₁ ar₁ → r ≡ files.Refused c q
+        → FileTaken (fileAnswer read) de st ar (answers.Refused c q) de₂ st₂ ar₂
+    taken-refused (got ds k) c q r h g = absurd (let z : _≡_ {A = ℕ} 0 1 = cc (h .is) in omega arith)
+    taken-refused (bad y w) c q r h g =
+        record {
+          answer = cc (h .is);
+          definitionTable = zero-again de de₁ de₂ de-same (again .0);
+          statementTable = zero-again st st₁ st₂ st-same (again .1);
+          argumentTable = zero-again ar ar₁ ar₂ ar-same (again .2);
+        }
+
+    -- 32
+    pub taken-32 : (read : Res (List Definition)) (p d i a : ℕ) (r : FileRead) → FileParsed read de₀ st₀ ar₀ r de₁ st₁ ar₁ → r ≡ files.Done p d i a
+        → length de₁ / 12 < d
+        → FileTaken (fileAnswer read) de st ar (answers.DefinitionsTooSmall d) de₂ st₂ ar₂
+    unfolding settled
+    taken-32 (got ds k) p d i a r h g small =
+        let count : length ds ≡ d = cc (h .is) in
+        record {
+          answer = rw (lt-ltb (length de / 12) (length ds) (rw (count, ← de-same) small)) (cc);
+          definitionTable = zero-again de de₁ de₂ de-same (again .0);
+          statementTable = zero-again st st₁ st₂ st-same (again .1);
+          argumentTable = zero-again ar ar₁ ar₂ ar-same (again .2);
+        }
+    taken-32 (bad y w) p d i a r h g small = absurd (let z : _≡_ {A = ℕ} 0 1 = cc (h .is) in omega arith)
+
+    -- 33
+    pub taken-33 : (read : Res (List Definition)) (p d i a : ℕ) (r : FileRead) → FileParsed read de₀ st₀ ar₀ r de₁ st₁ ar₁ → r ≡ files.Done p d i a
+        → d ≤ length de₁ / 12 → length st₁ / 8 < i
+        → FileTaken (fileAnswer read) de st ar (answers.StatementsTooSmall i) de₂ st₂ ar₂
+    unfolding settled
+    taken-33 (got ds k) p d i a r h g room small =
+        let count : length ds ≡ d = cc (h .is) in
+        let count′ : fileStatementCount ds ≡ i = cc (h .is) in
+        record {
+          answer = rw (le-ltb (length de / 12) (length ds) (rw (count, ← de-same) room), lt-ltb (length st / 8) (fileStatementCount ds) (rw (count′, ← st-same) small)) (cc);
+          definitionTable = zero-again de de₁ de₂ de-same (again .0);
+          statementTable = zero-again st st₁ st₂ st-same (again .1);
+          argumentTable = zero-again ar ar₁ ar₂ ar-same (again .2);
+        }
+    taken-33 (bad y w) p d i a r h g room small = absurd (let z : _≡_ {A = ℕ} 0 1 = cc (h .is) in omega arith)
+
+    -- 34
+    pub taken-34 : (read : Res (List Definition)) (p d i a : ℕ) (r : FileRead) → FileParsed read de₀ st₀ ar₀ r de₁ st₁ ar₁ → r ≡ files.Done p d i a
+        → d ≤ length de₁ / 12 → i ≤ length st₁ / 8 → length ar₁ / 7 < a
+        → FileTaken (fileAnswer read) de st ar (answers.ArgumentsTooSmall a) de₂ st₂ ar₂
+    unfolding settled
+    taken-34 (got ds k) p d i a r h g room room′ small =
+        let count : length ds ≡ d = cc (h .is) in
+        let count′ : fileStatementCount ds ≡ i = cc (h .is) in
+        let count″ : length (fileArguments ds) ≡ a = cc (h .is) in
+        record {
+          answer =
+              rw (
+                le-ltb (length de / 12) (length ds) (rw (count, ← de-same) room),
+                le-ltb (length st / 8) (fileStatementCount ds) (rw (count′, ← st-same) room′),
+                lt-ltb (length ar / 7) (length (fileArguments ds)) (rw (count″, ← ar-same) small),
+              ) (cc);
+          definitionTable = zero-again de de₁ de₂ de-same (again .0);
+          statementTable = zero-again st st₁ st₂ st-same (again .1);
+          argumentTable = zero-again ar ar₁ ar₂ ar-same (again .2);
+        }
+    taken-34 (bad y w) p d i a r h g room room′ small = absurd (let z : _≡_ {A = ℕ} 0 1 = cc (h .is) in omega arith)
+
+  -- accepted
+  pub taken-read : (read : Res (List Definition)) (p d i a : ℕ) (r : FileRead) → FileParsed read de₀ st₀ ar₀ r de₁ st₁ ar₁ → r ≡ files.Done p d i a
+      → d ≤ length de₁ / 12 → i ≤ length st₁ / 8 → a ≤ length ar₁ / 7
+      → FileTaken (fileAnswer read) de st ar (answers.Read p d i a) de₁ st₁ ar₁
+  unfolding settled
+  taken-read (got ds k) p d i a r h g room room′ room″ =
+      let count : length ds ≡ d = cc (h .is) in
+      let count′ : fileStatementCount ds ≡ i = cc (h .is) in
+      let count″ : length (fileArguments ds) ≡ a = cc (h .is) in
+      let place : 0 + k ≡ p = cc (h .is) in
+      record {
+        answer =
+            rw (
+              le-ltb (length de / 12) (length ds) (rw (count, ← de-same) room),
+              le-ltb (length st / 8) (fileStatementCount ds) (rw (count′, ← st-same) room′),
+              le-ltb (length ar / 7) (length (fileArguments ds)) (rw (count″, ← ar-same) room″),
+            ) (cc (zero-add k));
+        definitionTable =
+            h .definitionTable
+            ∙ ap (λ (t : List ℕ). putAll 12 t 0 (definitionRecords 0 0 ds)) (zeroed .0)
+            ∙ filled-records 12 (definitionRecords 0 0 ds) (length de) (omega arith) (definition-wide 0 0 ds) (rw (definition-count 0 0 ds, count, ← de-same) room);
+        statementTable =
+            h .statementTable
+            ∙ ap (λ (t : List ℕ). putAll 8 t 0 (fileStatements 0 0 ds)) (zeroed .1)
+            ∙ filled-records 8 (fileStatements 0 0 ds) (length st) (omega arith) (statement-wide 0 0 ds) (rw (statement-count 0 0 ds, count′, ← st-same) room′);
+        argumentTable =
+            h .argumentTable
+            ∙ ap (λ (t : List ℕ). putAll 7 t 0 (fileArgumentRecords ds)) (zeroed .2)
+            ∙ filled-records 7 (fileArgumentRecords ds) (length ar) (omega arith) (argument-wide ds) (rw (argument-count ds, count″, ← ar-same) room″);
+      }
+  taken-read (bad y w) p d i a r h g room room′ room″ = absurd (let z : _≡_ {A = ℕ} 0 1 = cc (h .is) in omega arith)
+
+-- ---- each way out of `read_file`
+
+module _ (text words kept kept′ : List ℕ) (r : Door) (prepared : Prepared text words 0 kept r kept′) where
+  listed : kept′ ≡ keptAfter (door text words 0 (length kept)) words kept
+  listed = prepared .list ∙ ap (λ (d : Door). keptAfter d words kept) (prepared .answer)
+
+  module _ (n : ℕ) (is : r ≡ doors.Ready n) where
+    door-is : door text words 0 (length kept) ≡ doors.Ready n
+    door-is = sym (prepared .answer) ∙ is
+
+    through : LetThrough text words 0 (length kept) n
+    through = ready text words 0 (length kept) door-is
+
+    written : kept′ ≡ sets kept 0 (keptOf words)
+    written = prepared .list ∙ ap (λ (d : Door). keptAfter d words kept) is
+
+    -- the kept numbers are the first words of the kept list
+    pub part-inside : n ≤ length kept′
+    part-inside = rw (written, length-sets) (through .room-enough)
+
+    part-is : take (n - 0) kept′ ≡ keptOf words
+    part-is =
+        let room : 0 + length (keptOf words) ≤ length kept = rw (through .count) (omega (arith, through .room-enough)) in
+        ap (λ (k : ℕ). take k kept′) (sub-zero n)
+        ∙ ap (take n) (written ∙ sets-eq (keptOf words) kept 0 room)
+        ∙ take-at (keptOf words) (drop (0 + length (keptOf words)) kept) n (through .count)
+
+    -- they are what reading needs
+    pub part-kept : Kept words (take (n - 0) kept′)
+    part-kept =
+        rw part-is
+        record { few = omega (arith, kept-few words, through .few); lined = lined-kept text words (through .formed) }
+
+    -- the reading
+    pub called-ready : (de st ar : List ℕ) (f : File) (de′ st′ ar′ : List ℕ)
+        → FileTaken (fileAt base true (view text words (take (n - 0) kept′))) de st ar f de′ st′ ar′
+        → FileCall text words kept de st ar f kept′ de′ st′ ar′
+    called-ready de st ar f de′ st′ ar′ taken =
+        let read : FileTaken (fileAt base true (view text words (keptOf words))) de st ar f de′ st′ ar′ = rw part-is at taken in
+        record {
+          answer = rw door-is (read .answer);
+          list = listed;
+          definitionTable = read .definitionTable;
+          statementTable = read .statementTable;
+          argumentTable = read .argumentTable;
+        }
+
+  -- 30 and 35: nothing lent has changed
+  module _ (de st ar : List ℕ) (at : ℕ) where
+    pub called-30 : r ≡ doors.NotWellFormed at → FileCall text words kept de st ar (answers.NotWellFormed at) kept′ de st ar
+    called-30 is =
+        let door-is : door text words 0 (length kept) ≡ doors.NotWellFormed at = sym (prepared .answer) ∙ is in
+        record { answer = rw door-is; list = listed; definitionTable = refl; statementTable = refl; argumentTable = refl }
+
+    pub called-35 : r ≡ doors.KeptTooShort at → FileCall text words kept de st ar (answers.KeptTooShort at) kept′ de st ar
+    called-35 is =
+        let door-is : door text words 0 (length kept) ≡ doors.KeptTooShort at = sym (prepared .answer) ∙ is in
+        record { answer = rw door-is; list = listed; definitionTable = refl; statementTable = refl; argumentTable = refl }
+
+    -- never given
+    pub called-31 : r ≡ doors.StartOutside at → FileCall text words kept de st ar (answers.NotWellFormed at) kept′ de st ar
+    called-31 is = absurd (file-not-31 text words (length kept) (sym (prepared .answer) ∙ is))

@@ -1,0 +1,147 @@
+-- A well-formed list's kept tokens lie one behind the other in the text, and there are no more of them than tokens. Assumes nothing.
+use Prim.Native.Nat.{ℕ, zero, suc, _+_, _*_, _%_, _≤_, _<_}
+use mathlib.Core.Path.{_≡_}
+use mathlib.Core.Bool.{Bool, true, false, _&&_}
+use mathlib.Core.List.{List, _∷_}
+use mathlib.Core.Logic.{⊎-elim}
+use native.Mathlib.Omega.{arith}
+use native.Mathlib.Nat.{eq-or-lt-of-le, le-of-suc-le-suc}
+use borrow.Author.Tests.{leb-true, lt-ltb}
+use lib.Dec.{leb, ltb, eqb}
+use lib.ListN.{length, getD}
+use Rattle.tokens.specs.Kind.{kinds}
+use Rattle.tokens.specs.Token.{tokenCount, kindOf, startOf, endOf, extraOf, fieldAt}
+use Rattle.tokens.specs.WellFormed.{wholeGood, prevEnd, rangeGood, eofGood, contentsGood, goodAfter, good, WellFormed}
+use Rattle.tokens.specs.Kept.{dropped, keepUnless, keptFrom, keptOf}
+use Rattle.tokens.proofs.Laws.{and-left, and-right}
+use Rattle.definitions.specs.Answers.{Lined}
+
+-- ---- the tokens of the lent list
+
+-- what "well formed" says of the range of token number i
+record Ranged (text words : List ℕ) (i : ℕ) : Type 0 where
+  after : prevEnd words i ≤ startOf words i
+  forwards : startOf words i ≤ endOf words i
+  within : endOf words i ≤ length text
+
+module _ (text words : List ℕ) (formed : WellFormed text words) where
+  ranged : (i : ℕ) → i < tokenCount words → Ranged text words i
+  unfolding good goodAfter rangeGood
+  ranged i h =
+      let kind = ltb (kindOf words i) kinds in
+      let first = leb (prevEnd words i) (startOf words i) in
+      let second = leb (startOf words i) (endOf words i) in
+      let third = leb (endOf words i) (length text) in
+      let eof = eofGood (eqb (i + 1) (tokenCount words)) (kindOf words i) in
+      let contents = contentsGood text (kindOf words i) (startOf words i) (endOf words i) (extraOf words i) in
+      let range : (first && second && third) ≡ true =
+      and-right kind (first && second && third)
+      (and-left (kind && (first && second && third)) eof
+      (and-left (kind && (first && second && third) && eof) contents (formed .each i h))) in
+      record {
+        after = leb-true _ _ (and-left first second (and-left (first && second) third range));
+        forwards = leb-true _ _ (and-right first second (and-left (first && second) third range));
+        within = leb-true _ _ (and-right (first && second) third range);
+      }
+
+  -- a token ends before any later one starts
+  ends-before : (i j : ℕ) → i < j → j < tokenCount words → endOf words i ≤ startOf words j
+  unfolding prevEnd
+  ends-before i zero h k = absurd (none i h)
+    where
+      none : (i : ℕ) → i < zero → ⊥
+      none i h = omega arith
+  ends-before i (suc j) h k =
+      go (λ (l : i < j). ends-before i j l (omega arith)) (ranged (suc j) k .after)
+    where
+      go : (i < j → endOf words i ≤ startOf words j) → endOf words j ≤ startOf words (suc j) → endOf words i ≤ startOf words (suc j)
+      go earlier next =
+          ⊎-elim
+          (λ (e : i ≡ j). rw e next)
+          (λ (l : i < j).
+          let one = earlier l in
+          let two = ranged j (omega arith) .forwards in
+          omega arith)
+          (eq-or-lt-of-le (down i j h))
+        where
+          down : (i j : ℕ) → i < suc j → i ≤ j
+          down i j h = omega arith
+
+  short : length text ≤ 1048576
+  unfolding wholeGood
+  short =
+      let a = leb (length text) 1048576 in
+      let b = eqb (length words % 4) 0 in
+      let c = ltb 0 (tokenCount words) in
+      let d = leb (tokenCount words) 65536 in
+      leb-true _ _ (and-left a b (and-left (a && b) c (and-left (a && b && c) d (formed .whole))))
+
+-- ---- the kept list
+
+-- of the numbers that are kept of `left` tokens from i on: each lies among those, and is less than the next
+record Rising (i left : ℕ) (kept : List ℕ) : Type 0 where
+  few : length kept ≤ left
+  low : (p : ℕ) → p < length kept → i ≤ getD kept p 0
+  high : (p : ℕ) → p < length kept → getD kept p 0 < i + left
+  rises : (p : ℕ) → suc p < length kept → getD kept p 0 < getD kept (suc p) 0
+
+rising : (words : List ℕ) (left i : ℕ) → Rising i left (keptFrom words left i)
+unfolding keptFrom
+rising words zero i =
+    record { few = omega arith; low = λ p h. absurd (none p h); high = λ p h. absurd (none p h); rises = λ p h. absurd (none (suc p) h) }
+  where
+    none : (p : ℕ) → p < 0 → ⊥
+    none p h = omega arith
+rising words (suc left) i = go (dropped (kindOf words i)) (rising words left (i + 1))
+  where
+    go : (t : Bool) → Rising (i + 1) left (keptFrom words left (i + 1)) → Rising i (suc left) (keepUnless t i (keptFrom words left (i + 1)))
+    go true r =
+        record {
+          few = omega (arith, r .few);
+          low = λ p h. omega (arith, r .low p h);
+          high = λ p h. omega (arith, r .high p h);
+          rises = r .rises;
+        }
+    go false r = record { few = omega (arith, r .few); low = low′; high = high′; rises = rises′ }
+      where
+        low′ : (p : ℕ) → p < length (i ∷ keptFrom words left (i + 1)) → i ≤ getD (i ∷ keptFrom words left (i + 1)) p 0
+        low′ zero h = omega arith
+        low′ (suc p) h = omega (arith, r .low p (le-of-suc-le-suc h))
+
+        high′ : (p : ℕ) → p < length (i ∷ keptFrom words left (i + 1)) → getD (i ∷ keptFrom words left (i + 1)) p 0 < i + suc left
+        high′ zero h = omega arith
+        high′ (suc p) h = omega (arith, r .high p (le-of-suc-le-suc h))
+
+        rises′ : (p : ℕ) → suc p < length (i ∷ keptFrom words left (i + 1)) → getD (i ∷ keptFrom words left (i + 1)) p 0 < getD (i ∷ keptFrom words left (i + 1)) (suc p) 0
+        rises′ zero h = omega (arith, r .low 0 (le-of-suc-le-suc h))
+        rises′ (suc p) h = r .rises p (le-of-suc-le-suc h)
+
+kept-rising : (words : List ℕ) → Rising 0 (tokenCount words) (keptOf words)
+unfolding keptOf
+kept-rising words = rising words (tokenCount words) 0
+
+-- no more are kept than there are
+pub kept-few : (words : List ℕ) → length (keptOf words) ≤ tokenCount words
+kept-few words = kept-rising words .few
+
+field-is : (j : ℕ) (words kept : List ℕ) (p : ℕ) → p < length kept → fieldAt j words kept p ≡ getD words (getD kept p 0 * 4 + j) 0
+unfolding fieldAt
+field-is j words kept p h = rw (lt-ltb _ _ h)
+
+pub lined-kept : (text words : List ℕ) → WellFormed text words → Lined words (keptOf words)
+lined-kept text words formed =
+    record {
+      range = λ p h.
+          let r = kept-rising words in
+          rw (field-is 1 words (keptOf words) p h, field-is 2 words (keptOf words) p h)
+          (ranged text words formed (getD (keptOf words) p 0) (omega (arith, r .high p h)) .forwards);
+      next = λ p h.
+          let r = kept-rising words in
+          let here : p < length (keptOf words) = omega arith in
+          rw (field-is 2 words (keptOf words) p here, field-is 1 words (keptOf words) (suc p) h)
+          (ends-before text words formed (getD (keptOf words) p 0) (getD (keptOf words) (suc p) 0) (r .rises p h) (omega (arith, r .high (suc p) h)));
+      end = λ p h.
+          let r = kept-rising words in
+          rw (field-is 2 words (keptOf words) p h)
+          (omega (arith, short text words formed, ranged text words formed (getD (keptOf words) p 0) (omega (arith, r .high p h)) .within));
+    }

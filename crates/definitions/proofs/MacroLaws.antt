@@ -1,0 +1,408 @@
+-- Laws of macros, fns and tests: Takes and Returns, the list and `=`, the body and the record. Assumes nothing.
+use Prim.Native.Nat.{ℕ, suc, _+_, _≤_, _<_}
+use native.Mathlib.Nat.{add-zero, zero-add}
+use native.Mathlib.Omega.{arith}
+use mathlib.Core.Path.{_≡_, refl, sym, ap, _∙_}
+use mathlib.Core.Bool.{true, cond}
+use mathlib.Core.List.{List, [], _∷_, _++_, map, map-append}
+use mathlib.Core.Logic.{_⊎_, inl, inr, ⊎-elim}
+use borrow.Author.Tests.{eq-eqb, ne-eqb}
+use lib.Dec.{eqb}
+use lib.ListN.{length, drop, length-append, length-map}
+use Rattle.tokens.specs.Token.{Token, tokenAt}
+use Rattle.tokens.specs.Table.{putAll}
+use Rattle.tokens.specs.Kind.{Macro, Fn, Test, Takes, Returns, Assign}
+use Rattle.tokens.proofs.Laws.{lt-or-le}
+use Rattle.tokens.proofs.TableLaws.{putAll-append}
+use Rattle.grammar.specs.Reading.{Argument, Reading}
+use Rattle.grammar.specs.Rules.{base}
+use Rattle.grammar.specs.Result.{plain, number, Res, got, bad, on, refuse, leave, stepped, oneMore, Step, choose, expect, counted, seq}
+use Rattle.grammar.specs.Reader.{nameArgument, bodyFrom}
+use Rattle.grammar.specs.Typed.{singleNumber}
+use Rattle.grammar.specs.Records.{argumentRecord, allArguments, statementRecords, argumentRecords, statementCount, argumentCount}
+use Rattle.grammar.specs.FileReading.{MacroSort, theMacro, theFn, theTest, Form, aMacro, Definition}
+use Rattle.grammar.specs.FileReader.{optional, parseArgs, named, macroRest, parseMacro}
+use Rattle.grammar.specs.FileRecords.{macroNumber, formArguments, formCount, formStatements, definitionRecord}
+use Rattle.grammar.proofs.AtPlace.{look-at}
+use Rattle.statements.specs.Answers.{SingleRead, ListRead, BodyParsed}
+use Rattle.statements.specs.declared.single.Single.{Single}
+use Rattle.statements.specs.declared.single.Single.the-variants as singles
+use Rattle.statements.specs.declared.list.ArgList.the-variants as lists
+use Rattle.statements.specs.declared.item.Tally.{Tally}
+use Rattle.statements.specs.declared.item.Items.the-variants as items
+use Rattle.definitions.specs.declared.record.DefRead.{DefRead}
+use Rattle.definitions.specs.declared.record.DefRead.the-variants as defs
+use Rattle.definitions.specs.declared.macros.Numbers.the-variants as numbers
+use Rattle.definitions.specs.Behind.{formed, behindName, RestParsed}
+use Rattle.definitions.specs.Macros.{MacroKind, macroSort, NumberRead, numbersFrom, NumbersRead, headFrom, tailFrom, MacroPut, TailParsed}
+use Rattle.statements.proofs.At.{look-table, look-else, expect-yes, expect-no}
+use Rattle.definitions.proofs.Named.{rest-refused}
+use Rattle.definitions.proofs.Readers.{Stops, stops-here, as-stops, seq-stops, seq-at, seq-then-stops, seq-nothing, seq-same, seq-group, expect-group}
+
+-- ---- a number that may be missing
+
+module _ (k p : ℕ) (all : List Token) where
+  missing : {A : Type 0} (f : ℕ → List Token → Res A) (d : A) → (tokenAt all p .kind ≡ k → ⊥) → optional k f d p (drop p all) ≡ got d 0
+  unfolding optional
+  missing f d h =
+      look-at (λ t. cond (eqb (t .kind) k) (on f) (leave d)) p all
+      ∙ ap (λ b. stepped (cond b (on f) (leave d)) p (drop (suc p) all)) (ne-eqb _ _ h)
+
+  present : {A : Type 0} (f : ℕ → List Token → Res A) (d : A) → tokenAt all p .kind ≡ k → optional k f d p (drop p all) ≡ oneMore (f (suc p) (drop (suc p) all))
+  unfolding optional
+  present f d h =
+      look-at (λ t. cond (eqb (t .kind) k) (on f) (leave d)) p all
+      ∙ ap (λ b. stepped (cond b (on f) (leave d)) p (drop (suc p) all)) (eq-eqb _ _ h)
+
+  pub number-missing : {size : ℕ} → (tokenAt all p .kind ≡ k → ⊥) → p ≤ size → NumberRead p size (optional k singleNumber 0 p (drop p all)) (singles.Number 0 p)
+  number-missing h inside =
+      rw (missing singleNumber 0 h) (record { is = ap (singles.Number 0) (sym (add-zero p)); within = (omega arith, inside) })
+
+  pub number-there : {size q : ℕ} {r : Single} → tokenAt all p .kind ≡ k → q ≡ suc p → SingleRead q size (singleNumber q (drop q all)) r
+      → NumberRead p size (optional k singleNumber 0 p (drop p all)) r
+  number-there {size} {q} {r} h q-is s = rw (present singleNumber 0 h) (go (singleNumber (suc p) (drop (suc p) all)) (rw q-is at s))
+    where
+      go : (x : Res ℕ) → SingleRead (suc p) size x r → NumberRead p size (oneMore x) r
+      go (got n j) s =
+          let place : suc p + j ≡ p + suc j = omega arith in
+          let w = rw (s .is) at (s .within) in
+          record { is = s .is ∙ ap (singles.Number n) place; within = rw (s .is) (omega arith, omega arith) }
+      go (bad y w) s = record { is = s .is; within = rw (s .is) tt }
+
+-- what an answer tells of the reading
+record NumberGot (p : ℕ) (x : Res ℕ) (n e : ℕ) : Type 0 where
+  size : ℕ
+  is : x ≡ got n size
+  ends : p + size ≡ e
+
+number-got : {p size n e : ℕ} (x : Res ℕ) → NumberRead p size x (singles.Number n e) → NumberGot p x n e
+number-got (got m k) h = record { size = k; is = (cc (h .is)); ends = (cc (h .is)) }
+number-got (bad y w) h = absurd (let z : _≡_ {A = ℕ} 0 1 = cc (h .is) in omega arith)
+
+number-stops : {p size c q : ℕ} (x : Res ℕ) → NumberRead p size x (singles.Refused c q) → Stops x c q
+number-stops (got m k) h = absurd (let z : _≡_ {A = ℕ} 0 1 = cc (h .is) in omega arith)
+number-stops (bad y w) h = record { why = y; place = w; is = refl; says = (cc (h .is)); at = (cc (h .is)) }
+
+-- ---- both numbers
+
+numbers-refused : {p size c q : ℕ} {x : Res (ℕ × ℕ)} → Stops x c q → NumbersRead p size x (numbers.Refused c q)
+numbers-refused {q = q} s = rw (s .is) (record { is = ap (λ n. numbers.Refused n q) (s .says) ∙ ap (numbers.Refused (number (s .why))) (s .at); within = tt })
+
+-- Returns behind a number
+abbrev second : ℕ → ℕ → List Token → Res (ℕ × ℕ)
+second t = seq (optional Returns singleNumber 0) (λ r q ts. got (t, r) 0)
+
+module _ {p size : ℕ} (all : List Token) where
+  pub takes-refused : {c q : ℕ} → NumberRead p size (optional Takes singleNumber 0 p (drop p all)) (singles.Refused c q)
+      → NumbersRead p size (numbersFrom p (drop p all)) (numbers.Refused c q)
+  unfolding numbersFrom
+  takes-refused h = numbers-refused (seq-stops (optional Takes singleNumber 0) second p (drop p all) (number-stops _ h))
+
+  module _ {t q : ℕ} (h : NumberRead p size (optional Takes singleNumber 0 p (drop p all)) (singles.Number t q)) where
+    pub returns-refused : {d w : ℕ} → NumberRead q size (optional Returns singleNumber 0 q (drop q all)) (singles.Refused d w)
+        → NumbersRead p size (numbersFrom p (drop p all)) (numbers.Refused d w)
+    unfolding numbersFrom
+    returns-refused k =
+        let g = number-got _ h in
+        numbers-refused
+        (seq-then-stops (optional Takes singleNumber 0) second p all (g .is) (g .ends)
+        (seq-stops (optional Returns singleNumber 0) (λ r q ts. got (t, r) 0) q (drop q all) (number-stops _ k)))
+
+    pub both-read : {r e : ℕ} → NumberRead q size (optional Returns singleNumber 0 q (drop q all)) (singles.Number r e)
+        → NumbersRead p size (numbersFrom p (drop p all)) (numbers.Done t r e)
+    unfolding numbersFrom
+    both-read {r} {e} k =
+        let g = number-got _ h in
+        let l = number-got _ k in
+        let place : e ≡ p + (g .size + (l .size + 0)) = omega (arith, g .ends, l .ends) in
+        rw
+        (seq-at (optional Takes singleNumber 0) second p all (g .is) (g .ends)
+        ∙ ap (counted (g .size)) (seq-at (optional Returns singleNumber 0) (λ r q ts. got (t, r) 0) q all (l .is) (l .ends)))
+        (record { is = ap (numbers.Done t r) place; within = (omega arith, omega arith) })
+
+-- ---- the list and `=`
+
+record ListGot (p : ℕ) (x : Res (List Argument)) (table : List ℕ) (n e : ℕ) (table′ : List ℕ) : Type 0 where
+  args : List Argument
+  size : ℕ
+  is : x ≡ got args size
+  count : n ≡ length args
+  ends : p + size ≡ e
+  written : table′ ≡ putAll 7 table 0 (map argumentRecord args)
+
+list-got : {p size n e : ℕ} {table table′ : List ℕ} (x : Res (List Argument)) → ListRead 0 p size x table (lists.Done n e) table′ → ListGot p x table n e table′
+list-got (got args k) h =
+    record { args = args; size = k; is = refl; count = (cc (h .is, zero-add (length args))); ends = (cc (h .is)); written = h .records }
+list-got (bad y w) h = absurd (let z : _≡_ {A = ℕ} 0 1 = cc (h .is) in omega arith)
+
+list-stops : {p size c q : ℕ} {table table′ : List ℕ} (x : Res (List Argument)) → ListRead 0 p size x table (lists.Refused c q) table′ → Stops x c q
+list-stops (got args k) h = absurd (let z : _≡_ {A = ℕ} 0 1 = cc (h .is) in omega arith)
+list-stops (bad y w) h = record { why = y; place = w; is = refl; says = (cc (h .is)); at = (cc (h .is)) }
+
+list-refused : {p size c q : ℕ} {table table′ : List ℕ} {x : Res (List Argument)} → Stops x c q → ListRead 0 p size x table (lists.Refused c q) table′
+list-refused {q = q} s =
+    rw (s .is) (record { is = ap (λ n. lists.Refused n q) (s .says) ∙ ap (lists.Refused (number (s .why))) (s .at); records = tt; within = tt })
+
+-- `=` behind a list
+abbrev equals : List Argument → ℕ → List Token → Res (List Argument)
+equals args = expect Assign (plain 1) (λ a q ts. got args 0)
+
+module _ {p size : ℕ} {table table′ : List ℕ} (all : List Token) where
+  pub head-refused : {c q : ℕ} → ListRead 0 p size (parseArgs nameArgument p (drop p all)) table (lists.Refused c q) table′
+      → ListRead 0 p size (headFrom p (drop p all)) table (lists.Refused c q) table′
+  unfolding headFrom
+  head-refused h = list-refused (seq-stops (parseArgs nameArgument) equals p (drop p all) (list-stops _ h))
+
+  module _ {n e : ℕ} (h : ListRead 0 p size (parseArgs nameArgument p (drop p all)) table (lists.Done n e) table′) where
+    pub no-equals : (tokenAt all e .kind ≡ Assign → ⊥) → ListRead 0 p size (headFrom p (drop p all)) table (lists.Refused 1 e) table′
+    unfolding headFrom
+    no-equals k =
+        let g = list-got _ h in
+        list-refused
+        (seq-then-stops (parseArgs nameArgument) equals p all (g .is) (g .ends)
+        (stops-here (expect-no e all Assign (plain 1) (λ a q ts. got (g .args) 0) k) refl))
+
+    pub head-read : tokenAt all e .kind ≡ Assign → e + 1 ≤ size → ListRead 0 p size (headFrom p (drop p all)) table (lists.Done n (e + 1)) table′
+    unfolding headFrom
+    head-read k inside =
+        let g = list-got _ h in
+        let place : e + 1 ≡ p + (g .size + 1) = omega (arith, g .ends) in
+        let count : n ≡ 0 + length (g .args) = g .count ∙ sym (zero-add (length (g .args))) in
+        rw
+        (seq-at (parseArgs nameArgument) equals p all (g .is) (g .ends)
+        ∙ ap (counted (g .size)) (expect-yes e all Assign (plain 1) (λ a q ts. got (g .args) 0) k))
+        (record {
+          is = ap (λ m. lists.Done m (e + 1)) count ∙ ap (lists.Done (0 + length (g .args))) place;
+          records = g .written;
+          within = (omega arith, inside, omega arith);
+        })
+
+-- ---- the body and the record
+
+-- what the body's answer tells: the reading, and the records behind those before it
+record BodyGot (s : Tally) (i a : ℕ) (x : Res Reading) (st ar : List ℕ) (t : Tally) (st′ ar′ : List ℕ) : Type 0 where
+  value : Reading
+  size : ℕ
+  is : x ≡ got value size
+  ends : s .at + size ≡ t .at
+  statements : t .statements ≡ s .statements + statementCount value
+  arguments : t .arguments ≡ s .arguments + argumentCount value
+  statementTable : st′ ≡ putAll 8 st (s .statements) (statementRecords (i + s .statements) (a + s .arguments) value)
+  argumentTable : ar′ ≡ putAll 7 ar (s .arguments) (argumentRecords value)
+
+body-got : {s : Tally} {i a size : ℕ} {st ar st′ ar′ : List ℕ} {t : Tally} (x : Res Reading) → BodyParsed s i a size x st ar (items.Done t) st′ ar′ → BodyGot s i a x st ar t st′ ar′
+body-got {t = t} (got r k) h =
+    record {
+      value = r;
+      size = k;
+      is = refl;
+      ends = (cc (h .is));
+      statements = (cc (h .is));
+      arguments = (cc (h .is));
+      statementTable = h .statementTable;
+      argumentTable = h .argumentTable;
+    }
+body-got (bad y w) h = absurd (let z : _≡_ {A = ℕ} 0 1 = cc (h .is) in omega arith)
+
+body-stops : {s : Tally} {i a size c q : ℕ} {st ar st′ ar′ : List ℕ} (x : Res Reading) → BodyParsed s i a size x st ar (items.Refused c q) st′ ar′ → Stops x c q
+body-stops (got r k) h = absurd (let z : _≡_ {A = ℕ} 0 1 = cc (h .is) in omega arith)
+body-stops (bad y w) h = record { why = y; place = w; is = refl; says = (cc (h .is)); at = (cc (h .is)) }
+
+record NumbersGot (p : ℕ) (x : Res (ℕ × ℕ)) (t r e : ℕ) : Type 0 where
+  size : ℕ
+  is : x ≡ got (t, r) size
+  ends : p + size ≡ e
+
+numbers-got : {p size t r e : ℕ} (x : Res (ℕ × ℕ)) → NumbersRead p size x (numbers.Done t r e) → NumbersGot p x t r e
+numbers-got {t = t} {r} (got n k) h =
+    let takes : n .0 ≡ t = cc (h .is) in
+    let returns : n .1 ≡ r = cc (h .is) in
+    record { size = k; is = ap (λ x. got (x, n .1) k) takes ∙ ap (λ x. got (t, x) k) returns; ends = (cc (h .is)) }
+numbers-got (bad y w) h = absurd (let z : _≡_ {A = ℕ} 0 1 = cc (h .is) in omega arith)
+
+numbers-stops : {p size c q : ℕ} (x : Res (ℕ × ℕ)) → NumbersRead p size x (numbers.Refused c q) → Stops x c q
+numbers-stops (got n k) h = absurd (let z : _≡_ {A = ℕ} 0 1 = cc (h .is) in omega arith)
+numbers-stops (bad y w) h = record { why = y; place = w; is = refl; says = (cc (h .is)); at = (cc (h .is)) }
+
+-- the body behind both numbers
+abbrev bodyBehind : ℕ × ℕ → ℕ → List Token → Res ((ℕ × ℕ) × Reading)
+bodyBehind n = seq (bodyFrom base) (λ r q ts. got (n, r) 0)
+
+-- the tally that a body starts with, behind n declared arguments
+abbrev pub start : ℕ → ℕ → Tally
+start e n = record { at = e; statements = 0; arguments = n; bytes = 0; plain = true }
+
+module _ {kind first name n q i a size : ℕ} {de st ar de′ st′ ar′ : List ℕ} (all : List Token) where
+  tail-refused : {c w : ℕ} {x : Res ((ℕ × ℕ) × Reading)} → Stops x c w → TailParsed kind first name n q i a size x de st ar (defs.Refused c w) de′ st′ ar′
+  tail-refused {w = w} s =
+      rw (s .is)
+      (record {
+        is = ap (λ x. defs.Refused x w) (s .says) ∙ ap (λ x. defs.Refused (number (s .why)) x) (s .at);
+        definitionTable = tt;
+        statementTable = tt;
+        argumentTable = tt;
+        within = tt;
+      })
+
+  pub numbers-are-refused : {c w : ℕ} → NumbersRead q size (numbersFrom q (drop q all)) (numbers.Refused c w)
+      → TailParsed kind first name n q i a size (tailFrom q (drop q all)) de st ar (defs.Refused c w) de′ st′ ar′
+  unfolding tailFrom
+  numbers-are-refused h = tail-refused (seq-stops numbersFrom bodyBehind q (drop q all) (numbers-stops _ h))
+
+  module _ {t r e : ℕ} (h : NumbersRead q size (numbersFrom q (drop q all)) (numbers.Done t r e)) where
+    pub body-is-refused : {s : Tally} {c w : ℕ} → BodyParsed s i a size (bodyFrom base e (drop e all)) st ar (items.Refused c w) st′ ar′
+        → TailParsed kind first name n q i a size (tailFrom q (drop q all)) de st ar (defs.Refused c w) de′ st′ ar′
+    unfolding tailFrom
+    body-is-refused k =
+        let g = numbers-got _ h in
+        tail-refused
+        (seq-then-stops numbersFrom bodyBehind q all (g .is) (g .ends)
+        (seq-stops (bodyFrom base) (λ b x ts. got ((t, r), b) 0) e (drop e all) (body-stops _ k)))
+
+    pub tail-read : {y : Tally} {o : DefRead} → BodyParsed (start e n) i a size (bodyFrom base e (drop e all)) st ar (items.Done y) st′ ar′
+        → MacroPut kind first name n t r y i a de o de′
+        → TailParsed kind first name n q i a size (tailFrom q (drop q all)) de st ar o de′ st′ ar′
+    unfolding tailFrom
+    tail-read {y} {o} k m = go (numbers-got _ h) (body-got _ k)
+      where
+        go : NumbersGot q (numbersFrom q (drop q all)) t r e → BodyGot (start e n) i a (bodyFrom base e (drop e all)) st ar y st′ ar′
+            → TailParsed kind first name n q i a size (tailFrom q (drop q all)) de st ar o de′ st′ ar′
+        go g b =
+            let w = k .within in
+            let place : y .at ≡ q + (g .size + (b .size + 0)) = omega (arith, g .ends, b .ends) in
+            let count : y .statements ≡ statementCount (b .value) = b .statements ∙ zero-add (statementCount (b .value)) in
+            rw
+            (seq-at numbersFrom bodyBehind q all (g .is) (g .ends)
+            ∙ ap (counted (g .size)) (seq-at (bodyFrom base) (λ b x ts. got ((t, r), b) 0) e all (b .is) (b .ends)))
+            (record {
+              is = m .is ∙ rw (place, count, b .arguments) refl;
+              definitionTable = m .table ∙ rw (place, count) refl;
+              statementTable = b .statementTable ∙ rw (add-zero i) refl;
+              argumentTable = b .argumentTable;
+              within = rw (m .is) (omega arith, omega arith, omega arith, omega arith);
+            })
+
+-- ---- the whole
+
+abbrev behindEquals : MacroSort → List Argument → ℕ → List Token → Res Form
+behindEquals sort args =
+    seq (optional Takes singleNumber 0) (λ takes.
+    seq (optional Returns singleNumber 0) (λ returns. seq (bodyFrom base) (λ r q ts. got (aMacro sort args takes returns r) 0)))
+
+-- a macro's form, of what the two parts of its reading gave
+abbrev composed : MacroSort → List Argument → ((ℕ × ℕ) × Reading) → ℕ → List Token → Res Form
+composed sort args x q ts = got (aMacro sort args (x .0 .0) (x .0 .1) (x .1)) 0
+
+-- both numbers and the body, read one by one, are the tail
+tail-group : (sort : MacroSort) (args : List Argument) (p : ℕ) (ts : List Token) → seq tailFrom (composed sort args) p ts ≡ behindEquals sort args p ts
+unfolding tailFrom numbersFrom
+tail-group sort args p ts =
+    seq-group numbersFrom bodyBehind (composed sort args) p ts
+    ∙ seq-same numbersFrom (λ n. seq (bodyBehind n) (composed sort args)) last p ts
+    (λ n q us. seq-group (bodyFrom base) (λ r q ts. got (n, r) 0) (composed sort args) q us
+    ∙ seq-same (bodyFrom base) (λ r. seq (λ q ts. got (n, r) 0) (composed sort args)) (λ r. composed sort args (n, r)) q us
+    (λ r x vs. seq-nothing (n, r) (composed sort args) x vs))
+    ∙ seq-group (optional Takes singleNumber 0) second last p ts
+    ∙ seq-same (optional Takes singleNumber 0) (λ t. seq (second t) last) (λ t. seq (optional Returns singleNumber 0) (λ r. last (t, r))) p ts
+    (λ t q us. seq-group (optional Returns singleNumber 0) (λ r q ts. got (t, r) 0) last q us
+    ∙ seq-same (optional Returns singleNumber 0) (λ r. seq (λ q ts. got (t, r) 0) last) (λ r. last (t, r)) q us (λ r x vs. seq-nothing (t, r) last x vs))
+  where
+    last : ℕ × ℕ → ℕ → List Token → Res Form
+    last n = seq (bodyFrom base) (λ r. composed sort args (n, r))
+
+-- the list and `=`, read one by one, are the head
+head-group : (sort : MacroSort) (p : ℕ) (ts : List Token) → seq headFrom (behindEquals sort) p ts ≡ macroRest base sort p ts
+unfolding headFrom macroRest
+head-group sort p ts =
+    seq-group (parseArgs nameArgument) equals (behindEquals sort) p ts
+    ∙ seq-same (parseArgs nameArgument) (λ args. seq (equals args) (behindEquals sort)) (λ args. expect Assign (plain 1) (λ a. behindEquals sort args)) p ts
+    (λ args q us. expect-group Assign (plain 1) (λ a q ts. got args 0) (behindEquals sort) (λ a. behindEquals sort args) q us
+    (λ t x vs. seq-nothing args (behindEquals sort) x vs))
+
+which : (k : ℕ) → MacroKind k → (k ≡ 6) ⊎ ((k ≡ 7) ⊎ (k ≡ 8))
+which k h = ⊎-elim (λ (l : k < 7). inl (omega arith)) (λ (l : 7 ≤ k). inr (⊎-elim (λ (g : k < 8). inl (omega arith)) (λ (g : 8 ≤ k). inr (omega arith)) (lt-or-le k 8))) (lt-or-le k 7)
+
+-- the sort's number is the kind of its token
+sort-number : (k : ℕ) → MacroKind k → macroNumber (macroSort k) ≡ k
+sort-number k h = ⊎-elim (λ (e : k ≡ 6). rw e) (⊎-elim (λ (e : k ≡ 7). rw e) (λ (e : k ≡ 8). rw e)) (which k h)
+
+module _ (kind first name p : ℕ) (all : List Token) where
+  -- a macro by the two parts of its reading
+  parts-read : (sort : MacroSort) (args : List Argument) (m q k : ℕ) (x : (ℕ × ℕ) × Reading)
+      → headFrom p (drop p all) ≡ got args m → p + m ≡ q → tailFrom q (drop q all) ≡ got x k
+      → macroRest base sort p (drop p all) ≡ got (aMacro sort args (x .0 .0) (x .0 .1) (x .1)) (m + (k + 0))
+  parts-read sort args m q k x h ends t =
+      sym (head-group sort p (drop p all))
+      ∙ seq-at headFrom (behindEquals sort) p all h ends
+      ∙ ap (counted m) (sym (tail-group sort args q (drop q all)) ∙ seq-at tailFrom (composed sort args) q all t refl)
+
+  module _ {i a size : ℕ} {de st ar ar₁ de′ st′ ar′ : List ℕ} where
+    pub head-is-refused : (sort : MacroSort) {c q : ℕ} → ListRead 0 p size (headFrom p (drop p all)) ar (lists.Refused c q) ar₁
+        → RestParsed all p i a size (behindName first name all (macroRest base sort) p) de st ar (defs.Refused c q) de′ st′ ar′
+    unfolding behindName
+    head-is-refused sort h =
+        rest-refused
+        (seq-stops (macroRest base sort) (formed first name all) p (drop p all)
+        (as-stops (sym (head-group sort p (drop p all))) (seq-stops headFrom (behindEquals sort) p (drop p all) (list-stops _ h))))
+
+    -- the declared arguments come first, and the body's behind them
+    pub macro-read : {n q : ℕ} {r : DefRead} → MacroKind kind → ListRead 0 p size (headFrom p (drop p all)) ar (lists.Done n q) ar₁
+        → TailParsed kind first name n q i a size (tailFrom q (drop q all)) de st ar₁ r de′ st′ ar′
+        → RestParsed all p i a size (behindName first name all (macroRest base (macroSort kind)) p) de st ar r de′ st′ ar′
+    unfolding behindName definitionRecord formCount formArguments formStatements argumentCount argumentRecords
+    macro-read {n} {q} {r} k h t = go (list-got _ h) (tailFrom q (drop q all)) refl t
+      where
+        go : ListGot p (headFrom p (drop p all)) ar n q ar₁ → (x : Res ((ℕ × ℕ) × Reading)) → tailFrom q (drop q all) ≡ x
+            → TailParsed kind first name n q i a size x de st ar₁ r de′ st′ ar′
+            → RestParsed all p i a size (behindName first name all (macroRest base (macroSort kind)) p) de st ar r de′ st′ ar′
+        go g (got x j) e t =
+            let w = h .within in
+            let v = rw (t .is) at (t .within) in
+            let m = g .size in
+            let args = g .args in
+            let place : q + j ≡ p + (m + (j + 0) + 0) = omega (arith, g .ends) in
+            let end : q + j ≡ p + (m + (j + 0)) = omega (arith, g .ends) in
+            let count : n + length (allArguments (x .1)) ≡ length (args ++ allArguments (x .1)) = rw (g .count) (sym (length-append args (allArguments (x .1)))) in
+            let declared : n ≡ 0 + length (map argumentRecord args) = rw (zero-add, length-map) (g .count) in
+            rw (seq-at (macroRest base (macroSort kind)) (formed first name all) p all (parts-read (macroSort kind) args m q j x (g .is) (g .ends) e) refl)
+            (record {
+              is = t .is ∙ rw (place, count) refl;
+              definitionTable = t .definitionTable ∙ rw (end, g .count, sort-number kind k) refl;
+              statementTable = t .statementTable ∙ rw (g .count, add-zero (a + length args)) refl;
+              argumentTable =
+                  t .argumentTable
+                  ∙ ap (λ l. putAll 7 l n (map argumentRecord (allArguments (x .1)))) (g .written)
+                  ∙ ap (λ o. putAll 7 (putAll 7 ar 0 (map argumentRecord args)) o (map argumentRecord (allArguments (x .1)))) declared
+                  ∙ sym (putAll-append 7 ar 0 (map argumentRecord args) (map argumentRecord (allArguments (x .1))))
+                  ∙ ap (putAll 7 ar 0) (sym (map-append argumentRecord args (allArguments (x .1))));
+              name = refl;
+              within = rw (t .is) (omega arith, omega arith, omega arith, omega arith);
+            })
+        go g (bad y w) e t =
+            rw (t .is)
+            (rest-refused
+            (seq-stops (macroRest base (macroSort kind)) (formed first name all) p (drop p all)
+            (as-stops (sym (head-group (macroSort kind) p (drop p all)))
+            (seq-then-stops headFrom (behindEquals (macroSort kind)) p all (g .is) (g .ends)
+            (as-stops (sym (tail-group (macroSort kind) (g .args) q (drop q all)))
+            (seq-stops tailFrom (composed (macroSort kind) (g .args)) q (drop q all) (record { why = y; place = w; is = e; says = refl; at = refl })))))))
+
+-- ---- the first token
+
+module _ (first p : ℕ) (all : List Token) where
+  abbrev macroTable : List (ℕ × Step Definition)
+  macroTable = (Macro, on (named first (macroRest base theMacro))) ∷ (Fn, on (named first (macroRest base theFn))) ∷ (Test, on (named first (macroRest base theTest))) ∷ []
+
+  pub macro-opens : (k : ℕ) → tokenAt all p .kind ≡ k → MacroKind k
+      → parseMacro base first p (drop p all) ≡ oneMore (named first (macroRest base (macroSort k)) (suc p) (drop (suc p) all))
+  unfolding parseMacro choose
+  macro-opens k e h =
+      look-table p all (λ t. macroTable) (λ t. refuse (plain 1)) k e
+      ∙ ⊎-elim (λ (s : k ≡ 6). rw s) (⊎-elim (λ (s : k ≡ 7). rw s) (λ (s : k ≡ 8). rw s)) (which k h)
+
+  pub no-macro : (k : ℕ) → tokenAt all p .kind ≡ k → (MacroKind k → ⊥) → parseMacro base first p (drop p all) ≡ bad (plain 1) p
+  unfolding parseMacro
+  no-macro k e h =
+      look-else p all (λ t. macroTable) (λ t. refuse (plain 1)) k e
+      ((λ s. h (omega arith, omega arith)), ((λ s. h (omega arith, omega arith)), ((λ s. h (omega arith, omega arith)), tt)))
+      ∙ look-at (λ t. refuse (plain 1)) p all

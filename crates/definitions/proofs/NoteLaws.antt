@@ -1,0 +1,168 @@
+-- Laws of remembered names: the hash a byte at a time, the walk a name at a time, the bucket without a mark, one name more. Assumes nothing.
+use Prim.Native.Nat.{ℕ, zero, suc, _+_, _-_, _*_, _%_, _≤_, _<_}
+use mathlib.Core.Path.{_≡_, refl, sym, ap, _∙_}
+use mathlib.Core.Bool.{Bool, true, false}
+use mathlib.Core.List.{List}
+use mathlib.Core.Logic.{⊎-elim}
+use native.Mathlib.Omega.{arith}
+use native.Mathlib.Numerals.{add-one}
+use native.Mathlib.Nat.{mod-lt, eq-or-lt-of-le}
+use borrow.Author.Tests.{eqb-true, eqb-false}
+use lib.Dec.{eqb}
+use lib.ListN.{length, getD, drop, set, length-set, drop-of-length-le}
+use lib.Seq.{drop-cons, getD-set-same, getD-set-other}
+use Rattle.tokens.specs.Token.{Token, tokenAt, view, textAt}
+use Rattle.tokens.specs.Byte.{same}
+use Rattle.tokens.specs.Name.{oneOf}
+use Rattle.tokens.proofs.NameLaws.{same-equal}
+use Rattle.tokens.proofs.ViewLaws.{view-text}
+use Rattle.definitions.specs.Names.{hashFrom, hashOf, nameAt, namesAt, Noted, Noting}
+
+-- ---- the hash
+
+pub hash-step : (h i : ℕ) (name : List ℕ) → i < length name
+    → hashFrom ((h * 16777619 + getD name i 0) % 4294967291) (drop (i + 1) name) ≡ hashFrom h (drop i name)
+unfolding hashFrom
+hash-step h i name lt = rw (add-one i, drop-cons name i 0 lt)
+
+pub hash-end : (h i : ℕ) (name : List ℕ) → length name ≤ i → hashFrom h (drop i name) ≡ h
+unfolding hashFrom
+hash-end h i name le = rw (drop-of-length-le name le)
+
+-- ---- the walk
+
+-- names of different hashes are different
+other-hash : (a b : List ℕ) → (hashOf a ≡ hashOf b → ⊥) → same a b ≡ false
+other-hash a b h = go (same a b) refl
+  where
+    go : (t : Bool) → same a b ≡ t → t ≡ false
+    go true e = absurd (h (ap hashOf (same-equal a b .0 e)))
+    go false e = refl
+
+module _ (all : List Token) (places name : List ℕ) where
+  -- the name at j is the same
+  pub walk-found : (i j : ℕ) → i ≡ suc j → same (nameAt all places j) name ≡ true → oneOf (namesAt all places i) name ≡ true
+  unfolding oneOf namesAt
+  walk-found i j e h = rw (e, h)
+
+  -- the name at j is another
+  pub walk-other : (i j : ℕ) → i ≡ suc j → same (nameAt all places j) name ≡ false → oneOf (namesAt all places i) name ≡ oneOf (namesAt all places j) name
+  unfolding oneOf namesAt
+  walk-other i j e h = rw (e, h)
+
+  -- no name is left
+  pub walk-end : oneOf (namesAt all places 0) name ≡ false
+  unfolding oneOf namesAt
+  walk-end = refl
+
+  module _ (marks hashes : List ℕ) (n h : ℕ) (noted : Noted all marks places hashes n) (is : h ≡ hashOf name) where
+    -- a stored hash that is another tells that the name is another
+    pub hash-tells : (j : ℕ) → j < n → (getD hashes j 0 ≡ h → ⊥) → same (nameAt all places j) name ≡ false
+    hash-tells j lt other = other-hash (nameAt all places j) name (λ e. other (noted .hashed j lt ∙ e ∙ sym is))
+
+    -- a bucket without a mark tells that every earlier name is another
+    pub unmarked : getD marks (h % length marks) 0 ≡ 0 → oneOf (namesAt all places n) name ≡ false
+    unmarked none = go n (omega arith)
+      where
+        clash : (j : ℕ) → j < n → hashOf (nameAt all places j) ≡ hashOf name → ⊥
+        clash j lt e =
+            let one = noted .marked j lt in
+            let same-hash : hashOf (nameAt all places j) ≡ h = e ∙ sym is in
+            let two : getD marks (h % length marks) 0 ≡ 1 = rw same-hash at one in
+            omega arith
+
+        go : (k : ℕ) → k ≤ n → oneOf (namesAt all places k) name ≡ false
+        go zero le = walk-end
+        go (suc k) le = walk-other (suc k) k refl (other-hash (nameAt all places k) name (clash k (omega arith))) ∙ go k (omega arith)
+
+-- what the code compares is the name at a place
+pub same-here : (text words kept : List ℕ) (p : ℕ) (name part : List ℕ) {r t : Bool} → part ≡ textAt text words kept p → r ≡ same part name → r ≡ t
+    → same (tokenAt (view text words kept) p .text) name ≡ t
+same-here text words kept p name part e s is = ap (λ (l : List ℕ). same l name) (view-text text words kept p ∙ sym e) ∙ sym s ∙ is
+
+-- what the code asks of a text is asked of the name at a place
+pub asked-here : (text words kept places : List ℕ) (n p : ℕ) (name : List ℕ) {r t : Bool} → name ≡ textAt text words kept p
+    → r ≡ oneOf (namesAt (view text words kept) places n) name → r ≡ t
+    → t ≡ oneOf (namesAt (view text words kept) places n) (tokenAt (view text words kept) p .text)
+asked-here text words kept places n p name e s is = sym is ∙ s ∙ ap (oneOf (namesAt (view text words kept) places n)) (e ∙ sym (view-text text words kept p))
+
+-- ---- one name more
+
+module _ (all : List Token) (marks places hashes : List ℕ) (n p h : ℕ) where
+  abbrev pub marks′ : List ℕ
+  marks′ = set marks (h % length marks) 1
+
+  abbrev pub places′ : List ℕ
+  places′ = set places n p
+
+  abbrev pub hashes′ : List ℕ
+  hashes′ = set hashes n h
+
+  earlier : (j : ℕ) → j < n → nameAt all places′ j ≡ nameAt all places j
+  earlier j lt = ap (λ (q : ℕ). tokenAt all q .text) (getD-set-other places n j p 0 (apart j n lt))
+    where
+      apart : (j n : ℕ) → j < n → j ≡ n → ⊥
+      apart j n lt e = omega arith
+
+  earlier-names : (k : ℕ) → k ≤ n → namesAt all places′ k ≡ namesAt all places k
+  unfolding namesAt
+  earlier-names zero le = refl
+  earlier-names (suc k) le = rw (earlier k (omega arith), earlier-names k (omega arith))
+
+  module _ (noted : Noted all marks places hashes n) (room : n < length places) (room′ : n < length hashes) (is : h ≡ hashOf (tokenAt all p .text)) where
+    newest : nameAt all places′ n ≡ tokenAt all p .text
+    newest = ap (λ (q : ℕ). tokenAt all q .text) (getD-set-same places n p 0 room)
+
+    hashed′ : (j : ℕ) → j < suc n → getD hashes′ j 0 ≡ hashOf (nameAt all places′ j)
+    hashed′ j lt =
+        ⊎-elim
+        (λ (e : j ≡ n). rw e (getD-set-same hashes n h 0 room′ ∙ is ∙ ap hashOf (sym newest)))
+        (λ (l : j < n). getD-set-other hashes n j h 0 (λ e. apart j n l e) ∙ noted .hashed j l ∙ ap hashOf (sym (earlier j l)))
+        (eq-or-lt-of-le (down j n lt))
+      where
+        apart : (j n : ℕ) → j < n → j ≡ n → ⊥
+        apart j n lt e = omega arith
+
+        down : (j n : ℕ) → j < suc n → j ≤ n
+        down j n lt = omega arith
+
+    -- the bucket of the new name is marked, and every mark before stays
+    stays : (b : ℕ) → getD marks b 0 ≡ 1 → getD marks′ b 0 ≡ 1
+    stays b e = go (eqb b (h % length marks)) refl
+      where
+        go : (t : Bool) → eqb b (h % length marks) ≡ t → getD marks′ b 0 ≡ 1
+        go true x = rw (eqb-true b (h % length marks) x) (getD-set-same marks (h % length marks) 1 0 (mod-lt h (noted .buckets)))
+        go false x = getD-set-other marks (h % length marks) b 1 0 (eqb-false b (h % length marks) x) ∙ e
+
+    marked′ : (j : ℕ) → j < suc n → getD marks′ (hashOf (nameAt all places′ j) % length marks) 0 ≡ 1
+    marked′ j lt =
+        ⊎-elim
+        (λ (e : j ≡ n). rw (e, newest, ← is) (getD-set-same marks (h % length marks) 1 0 (mod-lt h (noted .buckets))))
+        (λ (l : j < n). rw (earlier j l) (stays (hashOf (nameAt all places j) % length marks) (noted .marked j l)))
+        (eq-or-lt-of-le (down j n lt))
+      where
+        down : (j n : ℕ) → j < suc n → j ≤ n
+        down j n lt = omega arith
+
+    pub noted-more : Noting false all (tokenAt all p .text) places n marks′ places′ hashes′ (suc n)
+    unfolding namesAt
+    noted-more = (
+      record {
+        placed = rw length-set room;
+        stored = rw length-set room′;
+        buckets = rw length-set (noted .buckets);
+        hashed = hashed′;
+        marked = λ j lt. rw (length-set marks (h % length marks) 1) (marked′ j lt);
+      },
+      rw (newest, earlier-names n (omega arith)),
+    )
+
+-- the same of what the code stores
+pub remembered : (text words kept marks places hashes : List ℕ) (n p h : ℕ) (name m q s : List ℕ)
+    → Noted (view text words kept) marks places hashes n → n < length places → n < length hashes
+    → name ≡ textAt text words kept p → h ≡ hashOf name
+    → (m ≡ set marks (h % length marks) 1) × (q ≡ set places n p) × (s ≡ set hashes n h)
+    → Noting false (view text words kept) (tokenAt (view text words kept) p .text) places n m q s (suc n)
+remembered text words kept marks places hashes n p h name m q s noted room room′ e is stored =
+    rw (stored .0, stored .1, stored .2)
+    (noted-more (view text words kept) marks places hashes n p h noted room room′ (is ∙ ap hashOf (e ∙ sym (view-text text words kept p))))

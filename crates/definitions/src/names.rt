@@ -1,0 +1,116 @@
+// Names of macros, fns and tests: the Rust's `check_duplicate_macro`, byte for byte.
+//
+// A walk over all earlier names for each macro would make the time grow with the square of their number. So each earlier name leaves a mark in the bucket
+// of its hash, and where the bucket of a new name has no mark, no earlier one is the same. Only where it has one are the earlier names walked, and of those
+// only the bytes of a name with the same hash are compared. The marks need not be clear at the start: a wrong one costs a walk, and no answer.
+use tokens::same_name;
+use tokens::text_at;
+ghost use Prim.Native.Nat.{_%_, _<_};
+ghost use mathlib.Core.Path.{_≡_};
+ghost use lib.ListN.{length, set};
+ghost use Rattle.tokens.specs.Token.{view, tokenAt};
+ghost use Rattle.tokens.specs.Name.{oneOf};
+ghost use Rattle.definitions.specs.Names.{hashOf, namesAt, Noted, Checked};
+
+// The hash of a name.
+fn hash_of(name: &[u8]) -> u32
+    ensures { λ r. ⌜ r ≡ hashOf (now (name .entry)) ⌝ }
+{
+    let mut h: u64 = 0;
+    let mut i = 0;
+    while i < name.len() {
+        h = (h * 16777619 + name[i] as u64) % 4294967291;
+        i += 1;
+    }
+    h as u32
+}
+
+// One of the first n remembered names is the same: the plain search, the last one first.
+fn is_remembered(
+    text: &[u8],
+    tokens: &[u32],
+    kept: &[u32],
+    name: &[u8],
+    h: u32,
+    marks: &[u8],
+    places: &[usize],
+    hashes: &[u32],
+    n: usize,
+) -> bool
+    requires { ⌜ Noted (view (now text) (now tokens) (now kept)) (now marks) (now places) (now hashes) n ⌝ }
+    requires { ⌜ h ≡ hashOf (now name) ⌝ }
+    ensures { λ r. ⌜ r ≡ oneOf (namesAt (view (now (text .entry)) (now (tokens .entry)) (now (kept .entry))) (now (places .entry)) n) (now (name .entry)) ⌝ }
+{
+    let mut i = n;
+    while 0 < i {
+        i -= 1;
+        if hashes[i] == h {
+            if same_name(text_at(text, tokens, kept, places[i]), name) {
+                return true;
+            }
+        }
+    }
+    false
+}
+
+// The same, and no walk where the bucket of the name has no mark.
+fn is_repeated(
+    text: &[u8],
+    tokens: &[u32],
+    kept: &[u32],
+    name: &[u8],
+    h: u32,
+    marks: &[u8],
+    places: &[usize],
+    hashes: &[u32],
+    n: usize,
+) -> bool
+    requires { ⌜ Noted (view (now text) (now tokens) (now kept)) (now marks) (now places) (now hashes) n ⌝ }
+    requires { ⌜ h ≡ hashOf (now name) ⌝ }
+    ensures { λ r. ⌜ r ≡ oneOf (namesAt (view (now (text .entry)) (now (tokens .entry)) (now (kept .entry))) (now (places .entry)) n) (now (name .entry)) ⌝ }
+{
+    let b = h as usize % marks.len();
+    if marks[b] == 0 {
+        return false;
+    }
+    is_remembered(text, tokens, kept, name, h, marks, places, hashes, n)
+}
+
+// The name at place p, whose hash is h, is number n from now on.
+fn remember(p: usize, h: u32, marks: &mut [u8], places: &mut [usize], hashes: &mut [u32], n: usize)
+    requires { ⌜ (0 < length (now marks)) × (n < length (now places)) × (n < length (now hashes)) ⌝ }
+    ensures { λ _. ⌜ (now (marks .exit) ≡ set (now (marks .entry)) (h % length (now (marks .entry))) 1)
+        × (now (places .exit) ≡ set (now (places .entry)) n p)
+        × (now (hashes .exit) ≡ set (now (hashes .entry)) n h) ⌝ }
+{
+    let b = h as usize % marks.len();
+    marks[b] = 1;
+    places[n] = p;
+    hashes[n] = h;
+}
+
+// Whether one of n earlier macros, fns and tests has the name at place p; if none has, it is remembered as the next.
+pub fn check_duplicate_macro(
+    text: &[u8],
+    tokens: &[u32],
+    kept: &[u32],
+    p: usize,
+    marks: &mut [u8],
+    places: &mut [usize],
+    hashes: &mut [u32],
+    n: usize,
+) -> bool
+    requires { ⌜ Noted (view (now text) (now tokens) (now kept)) (now marks) (now places) (now hashes) n ⌝ }
+    requires { ⌜ (n < length (now places)) × (n < length (now hashes)) ⌝ }
+    ensures { λ r. ⌜ Checked (view (now (text .entry)) (now (tokens .entry)) (now (kept .entry)))
+        (tokenAt (view (now (text .entry)) (now (tokens .entry)) (now (kept .entry))) p .text) (now (places .entry)) n r
+        (now (marks .exit)) (now (places .exit)) (now (hashes .exit)) ⌝ }
+{
+    let name = text_at(text, tokens, kept, p);
+    let h = hash_of(name);
+    if is_repeated(text, tokens, kept, name, h, marks, places, hashes, n) {
+        return true;
+    }
+    remember(p, h, marks, places, hashes, n);
+    false
+}
