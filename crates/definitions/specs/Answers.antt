@@ -58,7 +58,7 @@ abbrev pub NameStands : List Token → Res Definition → Type 0
 NameStands all (got d k) = d .token ≡ tokenAt all (d .name)
 NameStands all (bad y w) = Unit {0}
 
--- a macro, fn or test has three tokens more than its name's place tells
+-- a macro, fn or test takes at least three tokens from p on
 abbrev pub Long : Bool → ℕ → ℕ → Type 0
 Long true p e = p + 3 ≤ e
 Long false p e = Unit {0}
