@@ -1,0 +1,20 @@
+-- The promises of the exported functions: those of the entries, and the five numbers of the answer where the caller lent a place for them.
+use Prim.Native.Nat.{ℕ}
+use mathlib.Core.Path.{_≡_}
+use mathlib.Core.List.{List}
+use Rattle.statements.specs.declared.entry.Body.{Body}
+use Rattle.statements.specs.Call as body
+use Rattle.definitions.specs.declared.entry.File.{File}
+use Rattle.definitions.specs.Call as file
+
+-- a file call's: an answer that `read_file` promises, with all that is lent, and its five numbers
+pub record FileAnswered (text words kept definitions statements arguments answer′ kept′ definitions′ statements′ arguments′ : List ℕ) : Type 0 where
+  pub given : File
+  pub call : file.FileCall text words kept definitions statements arguments given kept′ definitions′ statements′ arguments′
+  pub numbers : answer′ ≡ file.values given
+
+-- a body call's: an answer that `read_body` promises, with all that is lent, and its five numbers
+pub record BodyAnswered (text words : List ℕ) (start : ℕ) (kept statements arguments answer′ kept′ statements′ arguments′ : List ℕ) : Type 0 where
+  pub given : Body
+  pub call : body.BodyCall text words start kept statements arguments given kept′ statements′ arguments′
+  pub numbers : answer′ ≡ body.values given

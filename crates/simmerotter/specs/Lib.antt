@@ -1,0 +1,2 @@
+-- What the promises of the exported functions mean.
+pub mod Answered
