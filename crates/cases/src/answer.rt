@@ -1,7 +1,4 @@
-// A line's answer: docs/CASES.md, "An answer".
-use crate::call::Answer;
-use crate::call::answer_body;
-use crate::call::answer_file;
+// A line's answer: docs/CASES.md, "An answer". The entries are called as programs in other languages call them, so that a case tries those very functions.
 use crate::line::Line;
 use crate::line::end_line;
 use crate::list::fill;
@@ -10,6 +7,8 @@ use crate::output::put_end;
 use crate::output::put_five;
 use crate::output::put_list;
 use crate::output::put_text;
+use simmerotter::simmerotter_read_body;
+use simmerotter::simmerotter_read_file;
 
 // Every part of a case fits its buffer.
 fn has_room(
@@ -42,20 +41,23 @@ fn ask_body(
     kept: &mut [u32],
     statements: &mut [u32],
     arguments: &mut [u32],
-) -> Answer {
+) -> [u64; 5] {
     let b = least(line.bytes, text.len());
     let w = least(line.words, tokens.len());
     let k = least(line.kept, kept.len());
     let s = least(line.statements, statements.len());
     let a = least(line.arguments, arguments.len());
-    answer_body(
+    let mut answer = [0u64; 5];
+    simmerotter_read_body(
         &text[0..b],
         &tokens[0..w],
         line.start,
         &mut kept[0..k],
         &mut statements[0..s],
         &mut arguments[0..a],
-    )
+        &mut answer,
+    );
+    answer
 }
 
 // A file's does so too.
@@ -67,21 +69,24 @@ fn ask_file(
     definitions: &mut [u32],
     statements: &mut [u32],
     arguments: &mut [u32],
-) -> Answer {
+) -> [u64; 5] {
     let b = least(line.bytes, text.len());
     let w = least(line.words, tokens.len());
     let k = least(line.kept, kept.len());
     let d = least(line.definitions, definitions.len());
     let s = least(line.statements, statements.len());
     let a = least(line.arguments, arguments.len());
-    answer_file(
+    let mut answer = [0u64; 5];
+    simmerotter_read_file(
         &text[0..b],
         &tokens[0..w],
         &mut kept[0..k],
         &mut definitions[0..d],
         &mut statements[0..s],
         &mut arguments[0..a],
-    )
+        &mut answer,
+    );
+    answer
 }
 
 fn ask(
@@ -92,7 +97,7 @@ fn ask(
     definitions: &mut [u32],
     statements: &mut [u32],
     arguments: &mut [u32],
-) -> Answer {
+) -> [u64; 5] {
     fill(kept, line.kept);
     fill(definitions, line.definitions);
     fill(statements, line.statements);
@@ -106,7 +111,7 @@ fn ask(
 // The answer's numbers, then the four lists as they are after the call.
 fn show(
     line: Line,
-    answer: Answer,
+    answer: [u64; 5],
     kept: &[u32],
     definitions: &[u32],
     statements: &[u32],
@@ -114,15 +119,7 @@ fn show(
     out: &mut [u8],
     filled: usize,
 ) -> usize {
-    let first = put_five(
-        out,
-        filled,
-        answer.number,
-        answer.cursor,
-        answer.c1,
-        answer.c2,
-        answer.c3,
-    );
+    let first = put_five(out, filled, answer);
     let second = put_list(out, first, kept, line.kept);
     let third = put_list(out, second, definitions, line.definitions);
     let fourth = put_list(out, third, statements, line.statements);

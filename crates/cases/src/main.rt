@@ -1,6 +1,5 @@
 // Answers cases, one a line, from standard input to standard output: docs/CASES.md.
 mod answer;
-mod call;
 mod line;
 mod list;
 mod output;

@@ -47,7 +47,7 @@ pub fn put_text(out: &mut [u8], filled: usize, text: &[u8]) -> usize {
 }
 
 // How many decimal digits write a number: at most 20 for 64 bits, which the test in the loop says to its proof.
-fn count_digits(n: usize) -> usize {
+fn count_digits(n: u64) -> usize {
     let mut count = 1;
     let mut rest = n / 10;
     while rest != 0 {
@@ -61,7 +61,7 @@ fn count_digits(n: usize) -> usize {
 }
 
 // The last `count` decimal digits of a number.
-fn write_digits(out: &mut [u8], at: usize, count: usize, n: usize)
+fn write_digits(out: &mut [u8], at: usize, count: usize, n: u64)
     requires { ⌜ at + count ≤ length (now out) ⌝ }
 {
     let mut rest = n;
@@ -74,7 +74,7 @@ fn write_digits(out: &mut [u8], at: usize, count: usize, n: usize)
 }
 
 // A number in decimal.
-pub fn put_number(out: &mut [u8], filled: usize, n: usize) -> usize {
+pub fn put_number(out: &mut [u8], filled: usize, n: u64) -> usize {
     let count = count_digits(n);
     let at = make_room(out, filled, count);
     if out.len() - at < count {
@@ -85,26 +85,18 @@ pub fn put_number(out: &mut [u8], filled: usize, n: usize) -> usize {
 }
 
 // A number and what stands behind it.
-fn put_and(out: &mut [u8], filled: usize, n: usize, byte: u8) -> usize {
+fn put_and(out: &mut [u8], filled: usize, n: u64, byte: u8) -> usize {
     let at = put_number(out, filled, n);
     put_byte(out, at, byte)
 }
 
 // The five numbers of an answer, with one space between them.
-pub fn put_five(
-    out: &mut [u8],
-    filled: usize,
-    a: usize,
-    b: usize,
-    c: usize,
-    d: usize,
-    e: usize,
-) -> usize {
-    let second = put_and(out, filled, a, b' ');
-    let third = put_and(out, second, b, b' ');
-    let fourth = put_and(out, third, c, b' ');
-    let fifth = put_and(out, fourth, d, b' ');
-    put_number(out, fifth, e)
+pub fn put_five(out: &mut [u8], filled: usize, answer: [u64; 5]) -> usize {
+    let second = put_and(out, filled, answer[0], b' ');
+    let third = put_and(out, second, answer[1], b' ');
+    let fourth = put_and(out, third, answer[2], b' ');
+    let fifth = put_and(out, fourth, answer[3], b' ');
+    put_number(out, fifth, answer[4])
 }
 
 // A comma before every word but the first.
@@ -127,8 +119,8 @@ fn put_words(out: &mut [u8], filled: usize, words: &[u32]) -> usize {
     at
 }
 
-fn wide(word: u32) -> usize {
-    word as usize
+fn wide(word: u32) -> u64 {
+    word as u64
 }
 
 // A bar and the first n words of a list.

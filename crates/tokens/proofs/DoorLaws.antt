@@ -1,8 +1,8 @@
 -- The door's walks over the tokens, a turn at a time, and what its answers mean. Assumes nothing.
 use Prim.Native.Nat.{ℕ, zero, suc, _+_, _-_, _%_, _≤_, _<_}
 use mathlib.Core.Path.{_≡_, refl, sym, ap, _∙_}
-use mathlib.Core.Bool.{Bool, true, false, cond, _&&_, true≢false}
-use borrow.Author.Tests.{ltb-true, ltb-false, leb-true, eqb-true, eq-eqb}
+use mathlib.Core.Bool.{Bool, true, false, cond, not, _&&_, and-true, and-false, true≢false}
+use borrow.Author.Tests.{ltb-true, ltb-false, leb-true, eqb-true, lt-ltb, eq-eqb, ne-eqb}
 use lib.Dec.{ltb, leb, eqb}
 use mathlib.Core.List.{List, [], _∷_}
 use mathlib.Core.Logic.{⊎-elim}
@@ -11,13 +11,14 @@ use native.Mathlib.Omega.{arith}
 use native.Mathlib.Numerals.{add-one}
 use lib.ListN.{length}
 use Rattle.tokens.specs.Kind.{Eof, kinds}
-use Rattle.tokens.specs.Token.{kindOf, startOf, endOf, tokenCount}
-use Rattle.tokens.specs.WellFormed.{goodAfter, good, badFrom, firstBad, prevEnd, rangeGood, eofGood, wholeGood, WellFormed}
+use Rattle.tokens.specs.Literal.{isLiteral}
+use Rattle.tokens.specs.Token.{kindOf, startOf, endOf, tokenCount, part}
+use Rattle.tokens.specs.WellFormed.{goodAfter, good, badFrom, firstBad, prevEnd, rangeGood, eofGood, textGood, extraGood, contentsGood, wholeGood, WellFormed}
 use Rattle.tokens.specs.declared.door.Door.{Door}
 use Rattle.tokens.specs.declared.door.Door.the-variants.{NotWellFormed, KeptTooShort, StartOutside, Ready}
 use Rattle.tokens.specs.Door.{door}
 use Rattle.tokens.specs.Kept.{dropped, keptFrom, keptOf, keepUnless}
-use Rattle.tokens.proofs.Laws.{left-step, left-none, and-left, and-right}
+use Rattle.tokens.proofs.Laws.{lt-or-le, left-step, left-none, and-left, and-right}
 
 -- ---- the first bad token
 
@@ -42,6 +43,53 @@ module _ (text words : List ℕ) (n i : ℕ) where
   unfolding badFrom
   bad-none h = rw (left-none n i h)
 
+-- what a token that is not the last one is asked, kind by kind
+module _ (text : List ℕ) (kind start end extra : ℕ) where
+  abbrev Asked : Bool → Type 0
+  Asked b = (ltb kind kinds && eofGood false kind && contentsGood text kind start end extra) ≡ b
+
+  -- of the kinds below Ident no text and no extra
+  pub asked-plain : kind < 38 → Asked (not (eqb kind Eof) && eqb extra 0)
+  unfolding eofGood contentsGood textGood extraGood
+  asked-plain h =
+      rw (lt-ltb kind 46 (omega arith), ne-eqb kind 38 (λ e. omega arith), ne-eqb kind 39 (λ e. omega arith), ne-eqb kind 40 (λ e. omega arith), ne-eqb kind 41 (λ e. omega arith), ne-eqb kind 42 (λ e. omega arith))
+
+  pub asked-opcode : kind ≡ 41 → Asked (leb extra 255)
+  unfolding eofGood contentsGood textGood extraGood
+  asked-opcode h = rw h
+
+  pub asked-number : kind ≡ 42 → Asked true
+  unfolding eofGood contentsGood textGood extraGood
+  asked-number h = rw h
+
+  pub asked-literal : kind ≡ 40 → extra ≡ 0 → Asked (isLiteral (part text start end))
+  unfolding eofGood contentsGood textGood extraGood
+  asked-literal h e = rw (h, e, and-true)
+
+  -- behind these three only Ident and Label have a text of their own
+  pub asked-other : 38 ≤ kind → (kind ≡ 41 → ⊥) → (kind ≡ 42 → ⊥) → (extra ≡ 0 → ⊥) → Asked false
+  unfolding eofGood contentsGood extraGood
+  asked-other h a b e = rw (ne-eqb kind 41 a, ne-eqb kind 42 b, ne-eqb extra 0 e, and-false, and-false)
+
+  pub asked-name : 38 ≤ kind → kind < 40 → extra ≡ 0 → Asked (ltb 0 (length (part text start end)))
+  unfolding eofGood contentsGood textGood extraGood
+  asked-name h k e =
+      ⊎-elim
+      (λ (i : kind < 39). let is : kind ≡ 38 = omega arith in rw (is, e, and-true))
+      (λ (i : 39 ≤ kind). let is : kind ≡ 39 = omega arith in rw (is, e, and-true))
+      (lt-or-le kind 39)
+
+  pub asked-rest : 40 ≤ kind → (kind ≡ 40 → ⊥) → (kind ≡ 41 → ⊥) → (kind ≡ 42 → ⊥) → extra ≡ 0 → Asked (ltb kind kinds)
+  unfolding eofGood contentsGood textGood extraGood
+  asked-rest h a b d e =
+      rw (ne-eqb kind 0 (λ i. omega arith), ne-eqb kind 38 (λ i. omega arith), ne-eqb kind 39 (λ i. omega arith), ne-eqb kind 40 a, ne-eqb kind 41 b, ne-eqb kind 42 d, e, and-true, and-true)
+
+-- and the last one
+pub asked-last : (text : List ℕ) (kind start end extra : ℕ) → (eqb kind Eof && eqb extra 0) ≡ (ltb kind kinds && eofGood true kind && contentsGood text kind start end extra)
+unfolding eofGood contentsGood textGood extraGood
+asked-last text zero start end extra = refl
+asked-last text (suc kind) start end extra = rw (ne-eqb (suc kind) 0 (λ e. omega arith), and-false)
+
 -- the token that was passed is the one before the next
 pub prev-next : (words : List ℕ) (i : ℕ) → endOf words i ≡ prevEnd words (i + 1)
 unfolding prevEnd
@@ -49,7 +97,21 @@ prev-next words i = rw add-one
 
 -- ---- the kept list
 
+-- a token counts for one at most
+pub one-most : (b : Bool) → cond b 0 1 ≤ 1
+one-most true = omega arith
+one-most false = omega arith
+
+-- a number before the rest counts for one, unless it is dropped
+counted : (b : Bool) (i : ℕ) (rest : List ℕ) → length (keepUnless b i rest) ≡ cond b 0 1 + length rest
+counted true i rest = omega arith
+counted false i rest = omega arith
+
 module _ (words : List ℕ) (n i : ℕ) where
+  pub kept-count : i < n → length (keptFrom words (n - i) i) ≡ cond (dropped (kindOf words i)) 0 1 + length (keptFrom words (n - (i + 1)) (i + 1))
+  unfolding keptFrom
+  kept-count h = rw (left-step n i h) (counted (dropped (kindOf words i)) i (keptFrom words (n - (i + 1)) (i + 1)))
+
   pub kept-drop : i < n → dropped (kindOf words i) ≡ true → keptFrom words (n - i) i ≡ keptFrom words (n - (i + 1)) (i + 1)
   unfolding keptFrom
   kept-drop h e = rw (left-step n i h, e)

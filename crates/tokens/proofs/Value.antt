@@ -155,15 +155,11 @@ from-leading q p h =
 
 -- ---- a text, byte for byte
 
-hex-step : (l : List ℕ) (i : ℕ) → i < length l → allHex (drop i l) ≡ isHex (getD l i 0) && allHex (drop (i + 1) l)
+-- a byte more is seen
+pub hex-seen : (l : List ℕ) (i : ℕ) (seen : Bool) → i < length l → ((seen && isHex (getD l i 0)) && allHex (drop (i + 1) l)) ≡ (seen && allHex (drop i l))
 unfolding allHex
-hex-step l i h = rw (add-one, drop-cons l i 0)
-
-pub hex-yes : (l : List ℕ) (i : ℕ) → i < length l → isHex (getD l i 0) ≡ true → allHex (drop (i + 1) l) ≡ allHex (drop i l)
-hex-yes l i h e = sym (hex-step l i h ∙ rw e)
-
-pub hex-no : (l : List ℕ) (i : ℕ) → i < length l → isHex (getD l i 0) ≡ false → allHex (drop i l) ≡ false
-hex-no l i h e = hex-step l i h ∙ rw e
+hex-seen l i true h = rw (add-one, drop-cons l i 0 h)
+hex-seen l i false h = refl
 
 pub hex-end : (l : List ℕ) (i : ℕ) → length l ≤ i → allHex (drop i l) ≡ true
 unfolding allHex
@@ -358,11 +354,12 @@ literal-length text e =
     within 3 66 (length text) sized .1
 
 -- 64 digits are never cut
-pub literal-value-whole : (text : List ℕ) → isLiteral text ≡ true → literalValue text ≡ valueAfter 0 (drop 2 text)
+pub value-uncut : (text : List ℕ) → length text ≤ 66 → literalValue text ≡ valueAfter 0 (drop 2 text)
 unfolding literalValue
-literal-value-whole text e =
-    let short = literal-length text e in
-    mod-eq-of-lt (value-small (drop 2 text) 64 (simp length-drop (omega arith)))
+value-uncut text short = mod-eq-of-lt (value-small (drop 2 text) 64 (simp length-drop (omega arith)))
+
+pub literal-value-whole : (text : List ℕ) → isLiteral text ≡ true → literalValue text ≡ valueAfter 0 (drop 2 text)
+literal-value-whole text e = value-uncut text (literal-length text e)
 
 pub literal-value-lt : (text : List ℕ) → literalValue text < 2 ^ 256
 unfolding literalValue

@@ -4,10 +4,13 @@ use crate::table::put_word;
 use crate::token::part_of;
 ghost use mathlib.Core.Path.{_≡_};
 ghost use Prim.Native.Nat.{_<_, _≤_};
+ghost use mathlib.Core.Bool.{false, cond, _&&_};
+ghost use lib.Dec.{ltb, eqb};
 ghost use lib.ListN.{length};
 ghost use lib.Seq.{sets};
+ghost use Rattle.tokens.specs.Kind.{kinds, Eof};
 ghost use Rattle.tokens.specs.Token.{tokenCount};
-ghost use Rattle.tokens.specs.WellFormed.{rangeGood, eofGood, textGood, extraGood, contentsGood, wholeGood, goodAfter, firstBad};
+ghost use Rattle.tokens.specs.WellFormed.{rangeGood, eofGood, contentsGood, wholeGood, goodAfter, firstBad};
 ghost use Rattle.tokens.specs.Kept.{dropped, keptOf};
 ghost use Rattle.tokens.specs.Door.{door, Prepared};
 
@@ -36,51 +39,44 @@ fn range_good(size: usize, prev: u32, start: u32, end: u32) -> bool
     end as usize <= size
 }
 
-// The last token is Eof and no other is.
-fn eof_good(last: bool, kind: u32) -> bool
-    ensures { λ r. ⌜ r ≡ eofGood last kind ⌝ }
+// The last token is Eof, which has no extra.
+fn last_good(kind: u32, extra: u32) -> bool
+    ensures { λ r. ⌜ r ≡ (eqb kind Eof && eqb extra 0) ⌝ }
 {
-    if last { kind == 0 } else { kind != 0 }
+    if kind != 0 {
+        return false;
+    }
+    extra == 0
 }
 
-// Ident and Label not empty; a Literal's text is a literal.
-fn text_good(kind: u32, text: &[u8]) -> bool
-    ensures { λ r. ⌜ r ≡ textGood kind (now (text .entry)) ⌝ }
+// What a token that is not the last one is asked by its kind: a known one, no Eof, text and extra as they should be. Most tokens are of a kind without a
+// text or an extra of its own, so that is asked first.
+fn contents_good(text: &[u8], kind: u32, start: u32, end: u32, extra: u32) -> bool
+    ensures { λ r. ⌜ r ≡ (ltb kind kinds && eofGood false kind && contentsGood (now (text .entry)) kind start end extra) ⌝ }
 {
-    if kind == 38 {
-        return 0 < text.len();
+    if kind < 38 {
+        if extra != 0 {
+            return false;
+        }
+        return kind != 0;
     }
-    if kind == 39 {
-        return 0 < text.len();
-    }
-    if kind == 40 {
-        return is_literal(text);
-    }
-    true
-}
-
-// The opcode byte for Opcode, any number for Num, else 0.
-fn extra_good(kind: u32, extra: u32) -> bool
-    ensures { λ r. ⌜ r ≡ extraGood kind extra ⌝ }
-{
     if kind == 41 {
         return extra <= 255;
     }
     if kind == 42 {
         return true;
     }
-    extra == 0
-}
-
-// Text and extra of token number i, whose kind and range are known.
-fn contents_good(text: &[u8], kind: u32, start: u32, end: u32, extra: u32) -> bool
-    ensures { λ r. ⌜ r ≡ contentsGood (now (text .entry)) kind start end extra ⌝ }
-{
-    let part = part_of(text, start as usize, end as usize);
-    if !text_good(kind, part) {
+    if extra != 0 {
         return false;
     }
-    extra_good(kind, extra)
+    let part = part_of(text, start as usize, end as usize);
+    if kind == 40 {
+        return is_literal(part);
+    }
+    if kind < 40 {
+        return 0 < part.len();
+    }
+    kind < 46
 }
 
 // Token number i is as it should be, where the one before it ends at prev.
@@ -92,15 +88,11 @@ fn token_good(text: &[u8], tokens: &[u32], prev: u32, i: usize) -> bool
     let start = tokens[i * 4 + 1];
     let end = tokens[i * 4 + 2];
     let extra = tokens[i * 4 + 3];
-    if 46 <= kind {
-        return false;
-    }
     if !range_good(text.len(), prev, start, end) {
         return false;
     }
-    let last = i + 1 == tokens.len() / 4;
-    if !eof_good(last, kind) {
-        return false;
+    if i + 1 == tokens.len() / 4 {
+        return last_good(kind, extra);
     }
     contents_good(text, kind, start, end, extra)
 }
@@ -149,6 +141,13 @@ fn is_dropped(kind: u32) -> bool
     kind == 2
 }
 
+// 1 for a token that is kept, 0 for one that is dropped.
+fn kept_one(kind: u32) -> usize
+    ensures { λ r. ⌜ r ≡ cond (dropped kind) 0 1 ⌝ }
+{
+    if is_dropped(kind) { 0 } else { 1 }
+}
+
 // How many tokens are kept: known before anything is written.
 fn count_kept(tokens: &[u32]) -> usize
     ensures { λ r. ⌜ r ≡ length (keptOf (now (tokens .entry))) ⌝ }
@@ -157,11 +156,8 @@ fn count_kept(tokens: &[u32]) -> usize
     let mut count = 0;
     let mut i = 0;
     while i < n {
-        if is_dropped(tokens[i * 4]) {
-            i += 1;
-            continue;
-        }
-        count += 1;
+        // no branch: whether a token is kept can't be foreseen
+        count += kept_one(tokens[i * 4]);
         i += 1;
     }
     count

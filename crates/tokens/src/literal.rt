@@ -5,26 +5,11 @@ ghost use lib.ListN.{length, drop};
 ghost use Rattle.tokens.specs.Byte.{isHex, digit, allHex, valueAfter};
 ghost use Rattle.tokens.specs.Literal.{isLiteral, literalValue, significant};
 
-// A hex digit of either case.
+// A hex digit of either case. No branch: which range a byte lies in can't be foreseen.
 pub fn is_hex(c: u8) -> bool
     ensures { λ r. ⌜ r ≡ isHex c ⌝ }
 {
-    if c < 48 {
-        return false;
-    }
-    if c <= 57 {
-        return true;
-    }
-    if c < 65 {
-        return false;
-    }
-    if c <= 70 {
-        return true;
-    }
-    if c < 97 {
-        return false;
-    }
-    c <= 102
+    ((48 <= c) & (c <= 57)) | ((97 <= c) & (c <= 102)) | ((65 <= c) & (c <= 70))
 }
 
 // What a hex digit is worth; any other byte 0.
@@ -53,18 +38,17 @@ fn digit_value(c: u8) -> u64
     0
 }
 
-// Every byte is a hex digit.
+// Every byte is a hex digit. All are looked at, many at once where the machine can: a text that has another is the rare case.
 pub fn all_hex(name: &[u8]) -> bool
     ensures { λ r. ⌜ r ≡ allHex (now (name .entry)) ⌝ }
 {
+    let mut all = true;
     let mut i = 0;
     while i < name.len() {
-        if !is_hex(name[i]) {
-            return false;
-        }
+        all = all & is_hex(name[i]);
         i += 1;
     }
-    true
+    all
 }
 
 // 0x and 1 to 64 hex digits.
@@ -135,9 +119,9 @@ fn quarter_at(literal: &[u8], back: usize) -> u64
     quarter(&literal[a..e])
 }
 
-// A literal's significant bytes. Its last 64 digits are four quarters of 64 bits: the highest that is not zero decides, by its leading zeros, and all
-// bytes behind it are significant.
-pub fn significant_bytes(literal: &[u8]) -> usize
+// The significant bytes of a literal by all its quarters. Its last 64 digits are four quarters of 64 bits: the highest that is not zero decides, by its
+// leading zeros, and all bytes behind it are significant.
+fn bytes_of_four(literal: &[u8]) -> usize
     ensures { λ r. ⌜ r ≡ significant (literalValue (now (literal .entry))) ⌝ }
 {
     let highest = quarter_at(literal, 48);
@@ -153,4 +137,17 @@ pub fn significant_bytes(literal: &[u8]) -> usize
         return bytes_of(second) + 8;
     }
     bytes_of(quarter_at(literal, 0))
+}
+
+// A literal's significant bytes. One of at most 16 digits, as most are, is a single quarter.
+pub fn significant_bytes(literal: &[u8]) -> usize
+    ensures { λ r. ⌜ r ≡ significant (literalValue (now (literal .entry))) ⌝ }
+{
+    if literal.len() < 2 {
+        return bytes_of_four(literal);
+    }
+    if 18 < literal.len() {
+        return bytes_of_four(literal);
+    }
+    bytes_of(quarter(&literal[2..]))
 }

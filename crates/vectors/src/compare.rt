@@ -1,7 +1,4 @@
-// Tries one vector: the entry is called, and all that it leaves is compared with what is wanted.
-use crate::call::Answer;
-use crate::call::answer_body;
-use crate::call::answer_file;
+// Tries one vector: the entry is called as programs in other languages call it, and all that it leaves is compared with what is wanted.
 use crate::list::least;
 use crate::list::number_at;
 use crate::vector::LIST_ROOM;
@@ -17,6 +14,9 @@ use crate::vector::wanted_definitions;
 use crate::vector::wanted_kept;
 use crate::vector::wanted_statements;
 use crate::vector::words_of;
+use simmerotter::simmerotter_read_body;
+use simmerotter::simmerotter_read_file;
+ghost use Prim.Native.Nat.{_<_};
 
 // What every lent word holds before the call, so that a word left alone can be told from one written.
 const FILL: u32 = 2779096485;
@@ -34,8 +34,8 @@ pub enum Part {
 pub struct Difference {
     pub part: Part,
     pub at: usize,
-    pub wanted: usize,
-    pub got: usize,
+    pub wanted: u64,
+    pub got: u64,
 }
 
 pub enum Outcome {
@@ -55,37 +55,42 @@ fn is_right(outcome: Outcome) -> bool {
     }
 }
 
-fn compare_number(part: Part, at: usize, wanted: usize, got: usize) -> Outcome {
-    if wanted == got {
+// One of the five numbers.
+fn compare_number(wanted: &[u32], answer: [u64; 5], at: usize) -> Outcome
+    requires { ⌜ at < 5 ⌝ }
+{
+    let want = number_at(wanted, at) as u64;
+    let got = answer[at];
+    if want == got {
         return Outcome::Right;
     }
     Outcome::Differs(Difference {
-        part,
+        part: Part::Answer,
         at,
-        wanted,
+        wanted: want,
         got,
     })
 }
 
 // The five numbers.
-fn compare_answer(wanted: &[u32], answer: Answer) -> Outcome {
-    let number = compare_number(Part::Answer, 0, number_at(wanted, 0), answer.number);
+fn compare_answer(wanted: &[u32], answer: [u64; 5]) -> Outcome {
+    let number = compare_number(wanted, answer, 0);
     if !is_right(number) {
         return number;
     }
-    let cursor = compare_number(Part::Answer, 1, number_at(wanted, 1), answer.cursor);
+    let cursor = compare_number(wanted, answer, 1);
     if !is_right(cursor) {
         return cursor;
     }
-    let first = compare_number(Part::Answer, 2, number_at(wanted, 2), answer.c1);
+    let first = compare_number(wanted, answer, 2);
     if !is_right(first) {
         return first;
     }
-    let second = compare_number(Part::Answer, 3, number_at(wanted, 3), answer.c2);
+    let second = compare_number(wanted, answer, 3);
     if !is_right(second) {
         return second;
     }
-    compare_number(Part::Answer, 4, number_at(wanted, 4), answer.c3)
+    compare_number(wanted, answer, 4)
 }
 
 // Where two lists first differ, or the shorter one's end.
@@ -108,8 +113,8 @@ fn compare_list(part: Part, wanted: &[u32], got: &[u32]) -> Outcome {
         return Outcome::Differs(Difference {
             part,
             at,
-            wanted: number_at(wanted, at),
-            got: number_at(got, at),
+            wanted: number_at(wanted, at) as u64,
+            got: number_at(got, at) as u64,
         });
     }
     Outcome::Right
@@ -173,19 +178,22 @@ fn ask_body(
     kept: &mut [u32],
     statements: &mut [u32],
     arguments: &mut [u32],
-) -> Answer {
+) -> [u64; 5] {
     let b = least(vector.bytes, text.len());
     let k = least(vector.kept, kept.len());
     let s = least(vector.statements, statements.len());
     let a = least(vector.arguments, arguments.len());
-    answer_body(
+    let mut answer = [0u64; 5];
+    simmerotter_read_body(
         &text[0..b],
         words_of(vector, numbers),
         vector.start,
         &mut kept[0..k],
         &mut statements[0..s],
         &mut arguments[0..a],
-    )
+        &mut answer,
+    );
+    answer
 }
 
 // A file's does so too.
@@ -197,20 +205,23 @@ fn ask_file(
     definitions: &mut [u32],
     statements: &mut [u32],
     arguments: &mut [u32],
-) -> Answer {
+) -> [u64; 5] {
     let b = least(vector.bytes, text.len());
     let k = least(vector.kept, kept.len());
     let d = least(vector.definitions, definitions.len());
     let s = least(vector.statements, statements.len());
     let a = least(vector.arguments, arguments.len());
-    answer_file(
+    let mut answer = [0u64; 5];
+    simmerotter_read_file(
         &text[0..b],
         words_of(vector, numbers),
         &mut kept[0..k],
         &mut definitions[0..d],
         &mut statements[0..s],
         &mut arguments[0..a],
-    )
+        &mut answer,
+    );
+    answer
 }
 
 fn ask(
@@ -221,7 +232,7 @@ fn ask(
     definitions: &mut [u32],
     statements: &mut [u32],
     arguments: &mut [u32],
-) -> Answer {
+) -> [u64; 5] {
     if vector.mode == 1 {
         return ask_body(vector, numbers, text, kept, statements, arguments);
     }
@@ -240,7 +251,7 @@ fn ask(
 fn compare_all(
     vector: Vector,
     numbers: &[u32],
-    answer: Answer,
+    answer: [u64; 5],
     kept: &[u32],
     definitions: &[u32],
     statements: &[u32],

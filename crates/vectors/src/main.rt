@@ -1,5 +1,4 @@
 // Runs a fixed list of vectors from standard input and compares what the two entries answer: docs/VECTORS.md.
-mod call;
 mod compare;
 mod list;
 mod numbers;

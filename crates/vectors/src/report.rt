@@ -53,9 +53,9 @@ fn say_difference(difference: Difference, counts: &[u64]) {
     say(b" at ");
     say_number(difference.at as u64);
     say(b": wanted ");
-    say_number(difference.wanted as u64);
+    say_number(difference.wanted);
     say(b", got ");
-    say_number(difference.got as u64);
+    say_number(difference.got);
     say(b"\n");
 }
 

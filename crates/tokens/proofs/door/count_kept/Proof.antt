@@ -1,10 +1,12 @@
+-- `count_kept`: what is counted and what is still to come are the whole, at every turn. Assumes nothing.
 use Prim.Native.Nat.{_/_, _≤_, _-_, _+_}
 use native.Mathlib.Nat.{sub-zero, zero-add}
-use mathlib.Core.Path.{_≡_, ap, sym, _∙_}
+use mathlib.Core.Path.{_≡_, ap}
 use native.Mathlib.Omega.{arith}
 use lib.ListN.{length}
-use Rattle.tokens.specs.Kept.{keptFrom, keptOf}
-use Rattle.tokens.proofs.DoorLaws.{kept-drop, kept-take, kept-none}
+use Rattle.tokens.specs.Token.{kindOf}
+use Rattle.tokens.specs.Kept.{dropped, keptFrom, keptOf}
+use Rattle.tokens.proofs.DoorLaws.{one-most, kept-count, kept-none}
 use borrow.Author.Needs.{needs}
 use Rattle.tokens.proofs.door.count_kept.Statement.{statement}
 use Rattle.tokens.proofs.door.count_kept.Tie as tie
@@ -19,17 +21,23 @@ loop-holds : tie.Need-loop-holds Inv-loop μ-loop
 unfolding keptOf
 loop-holds c = (search needs, search needs, rw (sub-zero, zero-add))
 
-mul-is-dropped : tie.Need-mul-is-dropped Inv-loop μ-loop
-mul-is-dropped c = search needs
+mul-kept-one : tie.Need-mul-kept-one Inv-loop μ-loop
+mul-kept-one c = search needs
 
-mul-is-dropped-2 : tie.Need-mul-is-dropped-2 Inv-loop μ-loop
-mul-is-dropped-2 c = search needs
+mul-kept-one-2 : tie.Need-mul-kept-one-2 Inv-loop μ-loop
+mul-kept-one-2 c = search needs
 
-shared-slice-read-is-dropped : tie.Need-shared-slice-read-is-dropped Inv-loop μ-loop
-shared-slice-read-is-dropped c = search needs
+shared-slice-read-kept-one : tie.Need-shared-slice-read-kept-one Inv-loop μ-loop
+shared-slice-read-kept-one c = search needs
 
-is-dropped-requires : tie.Need-is-dropped-requires Inv-loop μ-loop
-is-dropped-requires c κs = search needs
+kept-one-requires : tie.Need-kept-one-requires Inv-loop μ-loop
+kept-one-requires c κs = search needs
+
+add-count : tie.Need-add-count Inv-loop μ-loop
+add-count c =
+    let w = c .before .before .before .loop in
+    let ws = c .before .before .before .before .before .args .tokens .now in
+    omega (arith, w .inv .0, w .inv .1, c .kept-one .ensures, one-most (dropped (kindOf ws (w .i))))
 
 add-i : tie.Need-add-i Inv-loop μ-loop
 add-i c = search needs
@@ -39,26 +47,11 @@ loop-less c = search needs
 
 loop-again : tie.Need-loop-again Inv-loop μ-loop
 loop-again c =
-    let w = c .before .before .before .before .loop in
-    let ws = c .before .before .before .before .before .before .args .tokens .now in
-    let step = kept-drop ws (length ws / 4) (w .i) (c .before .before .before .loop-test .taken) (sym (c .before .is-dropped .ensures) ∙ c .if1 .taken) in
-    (omega arith, omega arith, rw (← step) (w .inv .2))
-
-add-count : tie.Need-add-count Inv-loop μ-loop
-add-count c = search needs
-
-add-i-2 : tie.Need-add-i-2 Inv-loop μ-loop
-add-i-2 c = search needs
-
-loop-less-2 : tie.Need-loop-less-2 Inv-loop μ-loop
-loop-less-2 c = search needs
-
-loop-again-2 : tie.Need-loop-again-2 Inv-loop μ-loop
-loop-again-2 c =
-    let w = c .before .before .before .before .loop in
-    let ws = c .before .before .before .before .before .before .args .tokens .now in
-    let step = kept-take ws (length ws / 4) (w .i) (c .before .before .before .loop-test .taken) (sym (c .before .is-dropped .ensures) ∙ c .if1 .left) in
-    (omega arith, omega arith, omega (arith, ap length step, w .inv .2))
+    let w = c .before .before .before .loop in
+    let ws = c .before .before .before .before .before .args .tokens .now in
+    let step = kept-count ws (length ws / 4) (w .i) (c .before .before .loop-test .taken) in
+    let one = c .kept-one .ensures in
+    (omega arith, omega (arith, one, one-most (dropped (kindOf ws (w .i)))), omega (arith, one, step, w .inv .2))
 
 returns : tie.Need-returns Inv-loop μ-loop
 returns c =
@@ -73,15 +66,12 @@ count-kept-spec =
     Inv-loop
     μ-loop
     loop-holds
-    mul-is-dropped
-    mul-is-dropped-2
-    shared-slice-read-is-dropped
-    is-dropped-requires
+    mul-kept-one
+    mul-kept-one-2
+    shared-slice-read-kept-one
+    kept-one-requires
+    add-count
     add-i
     loop-less
     loop-again
-    add-count
-    add-i-2
-    loop-less-2
-    loop-again-2
     returns)

@@ -1,6 +1,11 @@
-use Rattle.tokens.proofs.Laws.{said-no, said-yes, tests}
-use borrow.Author.Tests.{lt-ltb}
+-- `token_good`: the tests in another order than the rule names them. Assumes nothing.
+use mathlib.Core.Path.{_∙_}
+use mathlib.Core.Bool.{and-true, and-false}
+use borrow.Author.Tests.{eq-eqb, ne-eqb}
+use Rattle.tokens.specs.Token.{kindOf, startOf, endOf, extraOf}
 use Rattle.tokens.specs.WellFormed.{goodAfter}
+use Rattle.tokens.proofs.Laws.{said-no, said-yes}
+use Rattle.tokens.proofs.DoorLaws.{asked-last}
 use borrow.Author.Needs.{needs}
 use Rattle.tokens.proofs.door.token_good.Statement.{statement}
 use Rattle.tokens.proofs.door.token_good.Tie as tie
@@ -50,35 +55,33 @@ mul-extra-2 c = search needs
 shared-slice-read-extra : tie.Need-shared-slice-read-extra
 shared-slice-read-extra c = search needs
 
-returns : tie.Need-returns
-unfolding goodAfter
-returns c =
-    let t0 = c .if1 .taken in
-    simp tests
-
 range-good-requires : tie.Need-range-good-requires
 range-good-requires c κs = search needs
 
+returns : tie.Need-returns
+unfolding goodAfter
+returns c = rw (said-no (c .before .range-good .ensures) (c .if1 .taken), and-false)
+
+add-if2 : tie.Need-add-if2
+add-if2 c = search needs
+
+last-good-requires : tie.Need-last-good-requires
+last-good-requires c κs = search needs
+
 returns-2 : tie.Need-returns-2
 unfolding goodAfter
-returns-2 c = rw (lt-ltb _ _ (c .before .before .if1 .left), said-no (c .before .range-good .ensures) (c .if2 .taken))
-
-add-last : tie.Need-add-last
-add-last c = search needs
-
-eof-good-requires : tie.Need-eof-good-requires
-eof-good-requires c κs = search needs
-
-returns-3 : tie.Need-returns-3
-unfolding goodAfter
-returns-3 c = rw (lt-ltb _ _ (c .before .before .before .before .if1 .left), said-yes (c .before .before .before .range-good .ensures) (c .before .before .if2 .left), said-no (c .before .eof-good .ensures) (c .if3 .taken))
+returns-2 c =
+    let at = c .before .before .before .before .before .before .before .before .before .before .args in
+    let ws = at .tokens .now in
+    rw (said-yes (c .before .before .before .range-good .ensures) (c .before .before .if1 .left), and-true, eq-eqb _ _ (c .before .if2 .taken))
+    (c .last-good .ensures ∙ asked-last (at .text .now) (kindOf ws (at .i)) (startOf ws (at .i)) (endOf ws (at .i)) (extraOf ws (at .i)))
 
 contents-good-requires : tie.Need-contents-good-requires
 contents-good-requires c κs = search needs
 
-returns-4 : tie.Need-returns-4
+returns-3 : tie.Need-returns-3
 unfolding goodAfter
-returns-4 c = rw (lt-ltb _ _ (c .before .before .before .before .before .if1 .left), said-yes (c .before .before .before .before .range-good .ensures) (c .before .before .before .if2 .left), said-yes (c .before .before .eof-good .ensures) (c .before .if3 .left)) (c .contents-good .ensures)
+returns-3 c = rw (said-yes (c .before .before .before .range-good .ensures) (c .before .before .if1 .left), and-true, ne-eqb _ _ (c .before .if2 .left)) (c .contents-good .ensures)
 
 pub token-good-spec : {M : Type 1} → statement M
 token-good-spec =
@@ -99,11 +102,10 @@ token-good-spec =
     add-extra
     mul-extra-2
     shared-slice-read-extra
-    returns
     range-good-requires
+    returns
+    add-if2
+    last-good-requires
     returns-2
-    add-last
-    eof-good-requires
-    returns-3
     contents-good-requires
-    returns-4)
+    returns-3)

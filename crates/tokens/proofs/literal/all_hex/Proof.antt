@@ -1,22 +1,20 @@
+-- `all_hex`: what was seen and what is still to come decide for all, at every turn. Assumes nothing.
 use Prim.Native.Nat.{_≤_, _-_}
-use mathlib.Core.Path.{sym, _∙_, _≡_, refl}
+use mathlib.Core.Path.{_≡_, refl, sym, _∙_}
+use mathlib.Core.Bool.{_&&_, and-true}
 use native.Mathlib.Omega.{arith}
 use lib.ListN.{length, drop}
 use borrow.Author.Needs.{needs}
-use borrow.Author.Tests.{not-true, not-false}
 use Rattle.tokens.specs.Byte.{allHex}
-use Rattle.tokens.proofs.Value.{hex-yes, hex-no, hex-end}
+use Rattle.tokens.proofs.Value.{hex-seen, hex-end}
 use Rattle.tokens.proofs.literal.all_hex.Statement.{statement}
 use Rattle.tokens.proofs.literal.all_hex.Tie as tie
 
--- `tokens::literal::all_hex` meets its contract. The loop's invariant: whether all bytes from here on are digits decides for all. The measure is what is left.
--- Assumes nothing.
-
 abbrev Inv-loop : tie.InvT-loop
-Inv-loop name i₀ i = (i ≤ length name) × (allHex (drop i name) ≡ allHex name)
+Inv-loop name all₀ i₀ all i = (i ≤ length name) × ((all && allHex (drop i name)) ≡ allHex name)
 
 abbrev μ-loop : tie.MeasureT-loop
-μ-loop name i₀ i = length name - i
+μ-loop name all₀ i₀ all i = length name - i
 
 loop-holds : tie.Need-loop-holds Inv-loop μ-loop
 loop-holds c = (omega arith, refl)
@@ -27,11 +25,6 @@ shared-slice-read-is-hex c = search needs
 is-hex-requires : tie.Need-is-hex-requires Inv-loop μ-loop
 is-hex-requires c κs = search needs
 
-returns : tie.Need-returns Inv-loop μ-loop
-returns c =
-    sym (hex-no _ _ (c .before .before .before .loop-test .taken) (sym (c .before .is-hex .ensures) ∙ not-true _ (c .if1 .taken)))
-    ∙ c .before .before .before .before .loop .inv .1
-
 add-i : tie.Need-add-i Inv-loop μ-loop
 add-i c = search needs
 
@@ -39,14 +32,15 @@ loop-less : tie.Need-loop-less Inv-loop μ-loop
 loop-less c = search needs
 
 loop-again : tie.Need-loop-again Inv-loop μ-loop
-loop-again c = (
-  search needs,
-  hex-yes _ _ (c .before .before .before .loop-test .taken) (sym (c .before .is-hex .ensures) ∙ not-false _ (c .if1 .left))
-      ∙ c .before .before .before .before .loop .inv .1,
-)
+loop-again c =
+    let w = c .before .before .before .loop in
+    let name = c .before .before .before .before .before .args .name .now in
+    (search needs, rw (c .is-hex .ensures) (hex-seen name (w .i) (w .all) (c .before .before .loop-test .taken)) ∙ w .inv .1)
 
-returns-2 : tie.Need-returns-2 Inv-loop μ-loop
-returns-2 c = sym (hex-end _ _ (c .loop-test .left)) ∙ c .before .loop .inv .1
+returns : tie.Need-returns Inv-loop μ-loop
+returns c =
+    let w = c .before .loop in
+    sym (and-true (w .all)) ∙ rw (hex-end _ (w .i) (c .loop-test .left)) at (w .inv .1)
 
 pub all-hex-spec : {M : Type 1} → statement M
 all-hex-spec =
@@ -57,8 +51,7 @@ all-hex-spec =
     loop-holds
     shared-slice-read-is-hex
     is-hex-requires
-    returns
     add-i
     loop-less
     loop-again
-    returns-2)
+    returns)
