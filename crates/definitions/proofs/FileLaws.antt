@@ -271,7 +271,7 @@ pub record Loop (text words kept de₀ st₀ ar₀ marks₀ places₀ hashes₀ 
   pub same-places : length places ≡ length places₀
   pub same-hashes : length hashes ≡ length hashes₀
 
-pub loop-begins : (text words kept de st ar marks places hashes : List ℕ) → 0 < length marks → Loop text words kept de st ar marks places hashes de st ar marks places hashes 0 0 0 0 0
+pub loop-begins : (text words kept de st ar marks places hashes : List ℕ) → 2 ≤ length marks → Loop text words kept de st ar marks places hashes de st ar marks places hashes 0 0 0 0 0
 unfolding namesAt parse
 loop-begins text words kept de st ar marks places hashes some =
     record {
@@ -282,7 +282,7 @@ loop-begins text words kept de st ar marks places hashes some =
             stored = omega arith;
             buckets = some;
             hashed = λ j h. absurd (none j h);
-            marked = λ j h. absurd (none j h);
+            marked = λ _ j h. absurd (none j h);
           };
       inside = omega arith;
       definitions = omega arith;

@@ -1,14 +1,15 @@
--- Laws of remembered names: the hash a byte at a time, the walk a name at a time, the bucket without a mark, one name more. Assumes nothing.
-use Prim.Native.Nat.{ℕ, zero, suc, _+_, _-_, _*_, _%_, _≤_, _<_}
+-- Laws of remembered names: the hash a byte at a time, the buckets, the walk a name at a time, a bucket without a mark, one name more. Assumes nothing.
+use Prim.Native.Nat.{ℕ, zero, suc, _+_, _-_, _*_, _/_, _%_, _≤_, _<_}
 use mathlib.Core.Path.{_≡_, refl, sym, ap, _∙_}
 use mathlib.Core.Bool.{Bool, true, false}
 use mathlib.Core.List.{List}
 use mathlib.Core.Logic.{⊎-elim}
 use native.Mathlib.Omega.{arith}
 use native.Mathlib.Numerals.{add-one}
-use native.Mathlib.Nat.{mod-lt, eq-or-lt-of-le}
+use native.Mathlib.Nat.{eq-or-lt-of-le}
 use borrow.Author.Tests.{eqb-true, eqb-false}
 use lib.Dec.{eqb}
+use lib.Bits.{and-le-r}
 use lib.ListN.{length, getD, drop, set, length-set, drop-of-length-le}
 use lib.Seq.{drop-cons, getD-set-same, getD-set-other}
 use Rattle.tokens.specs.Token.{Token, tokenAt, view, textAt}
@@ -16,18 +17,57 @@ use Rattle.tokens.specs.Byte.{same}
 use Rattle.tokens.specs.Name.{oneOf}
 use Rattle.tokens.proofs.NameLaws.{same-equal}
 use Rattle.tokens.proofs.ViewLaws.{view-text}
-use Rattle.definitions.specs.Names.{hashFrom, hashOf, nameAt, namesAt, Noted, Noting}
+use Rattle.definitions.specs.Names.{hashFrom, hashOf, bucket, mark, nameAt, namesAt, Noted, Noting}
 
 -- ---- the hash
 
 pub hash-step : (h i : ℕ) (name : List ℕ) → i < length name
-    → hashFrom ((h * 16777619 + getD name i 0) % 4294967291) (drop (i + 1) name) ≡ hashFrom h (drop i name)
+    → hashFrom ((h * 16777619 + getD name i 0) % 4294967296) (drop (i + 1) name) ≡ hashFrom h (drop i name)
 unfolding hashFrom
 hash-step h i name lt = rw (add-one i, drop-cons name i 0 lt)
 
 pub hash-end : (h i : ℕ) (name : List ℕ) → length name ≤ i → hashFrom h (drop i name) ≡ h
 unfolding hashFrom
 hash-end h i name le = rw (drop-of-length-le name le)
+
+-- ---- the buckets
+
+pub bucket-inside : (high : Bool) (size h : ℕ) → 2 ≤ size → bucket high size h < size
+unfolding bucket
+bucket-inside false size h some = let below = and-le-r h (size / 2 - 1) in omega arith
+bucket-inside true size h some = let below = and-le-r (h / 65536) (size / 2 - 1) in omega arith
+
+-- a mark stays where another is set
+stays : (marks : List ℕ) (b k : ℕ) → k < length marks → getD marks b 0 ≡ 1 → getD (set marks k 1) b 0 ≡ 1
+stays marks b k inside e = go (eqb b k) refl
+  where
+    go : (t : Bool) → eqb b k ≡ t → getD (set marks k 1) b 0 ≡ 1
+    go true x = rw (eqb-true b k x) (getD-set-same marks k 1 0 inside)
+    go false x = getD-set-other marks k b 1 0 (eqb-false b k x) ∙ e
+
+module _ (marks : List ℕ) (h : ℕ) where
+  abbrev own : Bool → ℕ
+  own high = bucket high (length marks) h
+
+  length-mark : length (mark marks h) ≡ length marks
+  unfolding mark
+  length-mark = length-set (set marks (own false) 1) (own true) 1 ∙ length-set marks (own false) 1
+
+  module _ (some : 2 ≤ length marks) where
+    inside : (high : Bool) → own high < length marks
+    inside high = bucket-inside high (length marks) h some
+
+    inside′ : own true < length (set marks (own false) 1)
+    inside′ = rw length-set (inside true)
+
+    mark-stays : (b : ℕ) → getD marks b 0 ≡ 1 → getD (mark marks h) b 0 ≡ 1
+    unfolding mark
+    mark-stays b e = stays (set marks (own false) 1) b (own true) inside′ (stays marks b (own false) (inside false) e)
+
+    mark-own : (high : Bool) → getD (mark marks h) (own high) 0 ≡ 1
+    unfolding mark
+    mark-own false = stays (set marks (own false) 1) (own false) (own true) inside′ (getD-set-same marks (own false) 1 0 (inside false))
+    mark-own true = getD-set-same (set marks (own false) 1) (own true) 1 0 inside′
 
 -- ---- the walk
 
@@ -61,14 +101,14 @@ module _ (all : List Token) (places name : List ℕ) where
     hash-tells j lt other = other-hash (nameAt all places j) name (λ e. other (noted .hashed j lt ∙ e ∙ sym is))
 
     -- a bucket without a mark tells that every earlier name is another
-    pub unmarked : getD marks (h % length marks) 0 ≡ 0 → oneOf (namesAt all places n) name ≡ false
-    unmarked none = go n (omega arith)
+    pub unmarked : (high : Bool) {b : ℕ} → b ≡ bucket high (length marks) h → getD marks b 0 ≡ 0 → oneOf (namesAt all places n) name ≡ false
+    unmarked high {b} own none = go n (omega arith)
       where
         clash : (j : ℕ) → j < n → hashOf (nameAt all places j) ≡ hashOf name → ⊥
         clash j lt e =
-            let one = noted .marked j lt in
+            let one = noted .marked high j lt in
             let same-hash : hashOf (nameAt all places j) ≡ h = e ∙ sym is in
-            let two : getD marks (h % length marks) 0 ≡ 1 = rw same-hash at one in
+            let two : getD marks b 0 ≡ 1 = rw (own, ← same-hash) one in
             omega arith
 
         go : (k : ℕ) → k ≤ n → oneOf (namesAt all places k) name ≡ false
@@ -89,9 +129,6 @@ asked-here text words kept places n p name e s is = sym is ∙ s ∙ ap (oneOf (
 -- ---- one name more
 
 module _ (all : List Token) (marks places hashes : List ℕ) (n p h : ℕ) where
-  abbrev pub marks′ : List ℕ
-  marks′ = set marks (h % length marks) 1
-
   abbrev pub places′ : List ℕ
   places′ = set places n p
 
@@ -126,33 +163,26 @@ module _ (all : List Token) (marks places hashes : List ℕ) (n p h : ℕ) where
         down : (j n : ℕ) → j < suc n → j ≤ n
         down j n lt = omega arith
 
-    -- the bucket of the new name is marked, and every mark before stays
-    stays : (b : ℕ) → getD marks b 0 ≡ 1 → getD marks′ b 0 ≡ 1
-    stays b e = go (eqb b (h % length marks)) refl
-      where
-        go : (t : Bool) → eqb b (h % length marks) ≡ t → getD marks′ b 0 ≡ 1
-        go true x = rw (eqb-true b (h % length marks) x) (getD-set-same marks (h % length marks) 1 0 (mod-lt h (noted .buckets)))
-        go false x = getD-set-other marks (h % length marks) b 1 0 (eqb-false b (h % length marks) x) ∙ e
-
-    marked′ : (j : ℕ) → j < suc n → getD marks′ (hashOf (nameAt all places′ j) % length marks) 0 ≡ 1
-    marked′ j lt =
+    -- the buckets of the new name are marked, and every mark before stays
+    marked′ : (high : Bool) (j : ℕ) → j < suc n → getD (mark marks h) (bucket high (length marks) (hashOf (nameAt all places′ j))) 0 ≡ 1
+    marked′ high j lt =
         ⊎-elim
-        (λ (e : j ≡ n). rw (e, newest, ← is) (getD-set-same marks (h % length marks) 1 0 (mod-lt h (noted .buckets))))
-        (λ (l : j < n). rw (earlier j l) (stays (hashOf (nameAt all places j) % length marks) (noted .marked j l)))
+        (λ (e : j ≡ n). rw (e, newest, ← is) (mark-own marks h (noted .buckets) high))
+        (λ (l : j < n). rw (earlier j l) (mark-stays marks h (noted .buckets) _ (noted .marked high j l)))
         (eq-or-lt-of-le (down j n lt))
       where
         down : (j n : ℕ) → j < suc n → j ≤ n
         down j n lt = omega arith
 
-    pub noted-more : Noting false all (tokenAt all p .text) places n marks′ places′ hashes′ (suc n)
+    pub noted-more : Noting false all (tokenAt all p .text) places n (mark marks h) places′ hashes′ (suc n)
     unfolding namesAt
     noted-more = (
       record {
         placed = rw length-set room;
         stored = rw length-set room′;
-        buckets = rw length-set (noted .buckets);
+        buckets = rw (length-mark marks h) (noted .buckets);
         hashed = hashed′;
-        marked = λ j lt. rw (length-set marks (h % length marks) 1) (marked′ j lt);
+        marked = λ high j lt. rw (length-mark marks h) (marked′ high j lt);
       },
       rw (newest, earlier-names n (omega arith)),
     )
@@ -161,7 +191,7 @@ module _ (all : List Token) (marks places hashes : List ℕ) (n p h : ℕ) where
 pub remembered : (text words kept marks places hashes : List ℕ) (n p h : ℕ) (name m q s : List ℕ)
     → Noted (view text words kept) marks places hashes n → n < length places → n < length hashes
     → name ≡ textAt text words kept p → h ≡ hashOf name
-    → (m ≡ set marks (h % length marks) 1) × (q ≡ set places n p) × (s ≡ set hashes n h)
+    → (m ≡ mark marks h) × (q ≡ set places n p) × (s ≡ set hashes n h)
     → Noting false (view text words kept) (tokenAt (view text words kept) p .text) places n m q s (suc n)
 remembered text words kept marks places hashes n p h name m q s noted room room′ e is stored =
     rw (stored .0, stored .1, stored .2)

@@ -1,20 +1,30 @@
 -- Names of macros, fns and tests behind one another: the places that are remembered, and what lets the code answer "no earlier one has this name" without
 -- looking at each.
-use Prim.Native.Nat.{ℕ, zero, suc, _+_, _*_, _%_, _≤_, _<_}
+use Prim.Native.Nat.{ℕ, zero, suc, _+_, _-_, _*_, _/_, _%_, _≤_, _<_}
 use mathlib.Core.Path.{_≡_}
 use mathlib.Core.Bool.{Bool, true, false}
 use mathlib.Core.List.{List, [], _∷_}
-use lib.ListN.{length, getD}
+use lib.Bits.{bitAnd}
+use lib.ListN.{length, getD, set}
 use Rattle.tokens.specs.Token.{Token, tokenAt}
 use Rattle.tokens.specs.Name.{oneOf}
 
 -- a number below 2 ^ 32 for every list of bytes; which one is of no account but for speed
 unfoldable pub hashFrom : ℕ → List ℕ → ℕ
 hashFrom h [] = h
-hashFrom h (b ∷ bs) = hashFrom ((h * 16777619 + b) % 4294967291) bs
+hashFrom h (b ∷ bs) = hashFrom ((h * 16777619 + b) % 4294967296) bs
 
 abbrev pub hashOf : List ℕ → ℕ
 hashOf name = hashFrom 0 name
+
+-- the two buckets of a hash among so many: one in the first half, by its low bits, and one in the second half, by its high bits
+unfoldable pub bucket : Bool → ℕ → ℕ → ℕ
+bucket false size h = bitAnd h (size / 2 - 1)
+bucket true size h = size / 2 + bitAnd (h / 65536) (size / 2 - 1)
+
+-- both are marked
+unfoldable pub mark : List ℕ → ℕ → List ℕ
+mark marks h = set (set marks (bucket false (length marks) h) 1) (bucket true (length marks) h) 1
 
 -- the name at remembered place number j
 abbrev pub nameAt : List Token → List ℕ → ℕ → List ℕ
@@ -25,13 +35,13 @@ unfoldable pub namesAt : List Token → List ℕ → ℕ → List (List ℕ)
 namesAt all places zero = []
 namesAt all places (suc n) = nameAt all places n ∷ namesAt all places n
 
--- what stands beside n remembered places: the hash of each name, and a mark in the bucket of each. Of other buckets nothing is said
+-- what stands beside n remembered places: the hash of each name, and a mark in both buckets of each. Of other buckets nothing is said
 pub record Noted (all : List Token) (marks places hashes : List ℕ) (n : ℕ) : Type 0 where
   pub placed : n ≤ length places
   pub stored : n ≤ length hashes
-  pub buckets : 0 < length marks
+  pub buckets : 2 ≤ length marks
   pub hashed : (j : ℕ) → j < n → getD hashes j 0 ≡ hashOf (nameAt all places j)
-  pub marked : (j : ℕ) → j < n → getD marks (hashOf (nameAt all places j) % length marks) 0 ≡ 1
+  pub marked : (high : Bool) (j : ℕ) → j < n → getD marks (bucket high (length marks) (hashOf (nameAt all places j))) 0 ≡ 1
 
 -- one name more is remembered, unless an earlier one is the same
 abbrev pub Noting : Bool → List Token → List ℕ → List ℕ → ℕ → List ℕ → List ℕ → List ℕ → ℕ → Type 0

@@ -133,7 +133,7 @@ fn parse_few(
         (now (definitions .entry)) (now (statements .entry)) (now (arguments .entry)) r
         (now (definitions .exit)) (now (statements .exit)) (now (arguments .exit)) ⌝ }
 {
-    let mut marks = [0u8; 2048];
+    let mut marks = [0u8; 4096];
     let mut places = [0usize; 512];
     let mut hashes = [0u32; 512];
     parse(
@@ -163,7 +163,7 @@ fn parse_many(
         (now (definitions .entry)) (now (statements .entry)) (now (arguments .entry)) r
         (now (definitions .exit)) (now (statements .exit)) (now (arguments .exit)) ⌝ }
 {
-    let mut marks = [0u8; 65536];
+    let mut marks = [0u8; 131072];
     let mut places = [0usize; 21846];
     let mut hashes = [0u32; 21846];
     parse(

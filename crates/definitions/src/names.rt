@@ -1,28 +1,49 @@
 // Names of macros, fns and tests: the Rust's `check_duplicate_macro`, byte for byte.
 //
-// A walk over all earlier names for each macro would make the time grow with the square of their number. So each earlier name leaves a mark in the bucket
-// of its hash, and where the bucket of a new name has no mark, no earlier one is the same. Only where it has one are the earlier names walked, and of those
-// only the bytes of a name with the same hash are compared. The marks need not be clear at the start: a wrong one costs a walk, and no answer.
+// A walk over all earlier names for each macro would make the time grow with the square of their number. So each earlier name leaves a mark in two buckets,
+// one by the low bits of its hash and one by the high bits, and where a bucket of a new name has no mark, no earlier one is the same. Only where both have
+// one are the earlier names walked, and of those only the bytes of a name with the same hash are compared. With one mark for each name a new name would meet
+// another's too often; that it meets one in both halves is rare. The marks need not be clear at the start: a wrong one costs a walk, and no answer.
 use tokens::same_name;
 use tokens::text_at;
-ghost use Prim.Native.Nat.{_%_, _<_};
+ghost use Prim.Native.Nat.{_≤_, _<_};
 ghost use mathlib.Core.Path.{_≡_};
+ghost use mathlib.Core.Bool.{true, false};
 ghost use lib.ListN.{length, set};
 ghost use Rattle.tokens.specs.Token.{view, tokenAt};
 ghost use Rattle.tokens.specs.Name.{oneOf};
-ghost use Rattle.definitions.specs.Names.{hashOf, namesAt, Noted, Checked};
+ghost use Rattle.definitions.specs.Names.{hashOf, bucket, mark, namesAt, Noted, Checked};
 
-// The hash of a name.
+// The hash of a name. Its modulus is a power of two, so that it costs a mask and no division for each byte.
 fn hash_of(name: &[u8]) -> u32
     ensures { λ r. ⌜ r ≡ hashOf (now (name .entry)) ⌝ }
 {
     let mut h: u64 = 0;
     let mut i = 0;
     while i < name.len() {
-        h = (h * 16777619 + name[i] as u64) % 4294967291;
+        h = (h * 16777619 + name[i] as u64) % 4294967296;
         i += 1;
     }
     h as u32
+}
+
+// The bucket of a hash in the first half of so many, by its low bits: a mask, and no division, where the size is a power of two.
+fn low_bucket(h: u32, size: usize) -> usize
+    requires { ⌜ 2 ≤ size ⌝ }
+    ensures { λ r. ⌜ r ≡ bucket false size h ⌝ }
+    ensures { λ r. ⌜ r < size ⌝ }
+{
+    h as usize & (size / 2 - 1)
+}
+
+// Its bucket in the second half, by its high bits.
+fn high_bucket(h: u32, size: usize) -> usize
+    requires { ⌜ 2 ≤ size ⌝ }
+    ensures { λ r. ⌜ r ≡ bucket true size h ⌝ }
+    ensures { λ r. ⌜ r < size ⌝ }
+{
+    let half = size / 2;
+    half + (h as usize / 65536 & (half - 1))
 }
 
 // One of the first n remembered names is the same: the plain search, the last one first.
@@ -53,7 +74,7 @@ fn is_remembered(
     false
 }
 
-// The same, and no walk where the bucket of the name has no mark.
+// The same, and no walk where a bucket of the name has no mark.
 fn is_repeated(
     text: &[u8],
     tokens: &[u32],
@@ -69,8 +90,12 @@ fn is_repeated(
     requires { ⌜ h ≡ hashOf (now name) ⌝ }
     ensures { λ r. ⌜ r ≡ oneOf (namesAt (view (now (text .entry)) (now (tokens .entry)) (now (kept .entry))) (now (places .entry)) n) (now (name .entry)) ⌝ }
 {
-    let b = h as usize % marks.len();
-    if marks[b] == 0 {
+    let low = low_bucket(h, marks.len());
+    if marks[low] == 0 {
+        return false;
+    }
+    let high = high_bucket(h, marks.len());
+    if marks[high] == 0 {
         return false;
     }
     is_remembered(text, tokens, kept, name, h, marks, places, hashes, n)
@@ -78,13 +103,15 @@ fn is_repeated(
 
 // The name at place p, whose hash is h, is number n from now on.
 fn remember(p: usize, h: u32, marks: &mut [u8], places: &mut [usize], hashes: &mut [u32], n: usize)
-    requires { ⌜ (0 < length (now marks)) × (n < length (now places)) × (n < length (now hashes)) ⌝ }
-    ensures { λ _. ⌜ (now (marks .exit) ≡ set (now (marks .entry)) (h % length (now (marks .entry))) 1)
+    requires { ⌜ (2 ≤ length (now marks)) × (n < length (now places)) × (n < length (now hashes)) ⌝ }
+    ensures { λ _. ⌜ (now (marks .exit) ≡ mark (now (marks .entry)) h)
         × (now (places .exit) ≡ set (now (places .entry)) n p)
         × (now (hashes .exit) ≡ set (now (hashes .entry)) n h) ⌝ }
 {
-    let b = h as usize % marks.len();
-    marks[b] = 1;
+    let low = low_bucket(h, marks.len());
+    let high = high_bucket(h, marks.len());
+    marks[low] = 1;
+    marks[high] = 1;
     places[n] = p;
     hashes[n] = h;
 }

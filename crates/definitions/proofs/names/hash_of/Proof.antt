@@ -10,7 +10,7 @@ use Rattle.definitions.proofs.names.hash_of.Statement.{statement}
 use Rattle.definitions.proofs.names.hash_of.Tie as tie
 
 abbrev Inv-loop : tie.InvT-loop
-Inv-loop name h₀ i₀ h i = (i ≤ length name) × (h < 4294967291) × (hashFrom h (drop i name) ≡ hashOf name)
+Inv-loop name h₀ i₀ h i = (i ≤ length name) × (h < 4294967296) × (hashFrom h (drop i name) ≡ hashOf name)
 
 abbrev μ-loop : tie.MeasureT-loop
 μ-loop name h₀ i₀ h i = length name - i

@@ -1,14 +1,21 @@
--- `remember`: three stores. Assumes nothing.
-use native.Mathlib.Nat.{mod-lt}
+-- `remember`: the two marks, the place and the hash are stored. Assumes nothing.
+use mathlib.Core.Path.{refl}
+use Rattle.definitions.specs.Names.{mark}
 use borrow.Author.Needs.{needs}
 use Rattle.definitions.proofs.names.remember.Statement.{statement}
 use Rattle.definitions.proofs.names.remember.Tie as tie
 
-rem-b : tie.Need-rem-b
-rem-b c = search needs
+low-bucket-requires : tie.Need-low-bucket-requires
+low-bucket-requires c κs = search needs
+
+high-bucket-requires : tie.Need-high-bucket-requires
+high-bucket-requires c κs = search needs
 
 slice-write-marks : tie.Need-slice-write-marks
-slice-write-marks c = mod-lt (c .args .h) (c .pre .0)
+slice-write-marks c = search needs
+
+slice-write-marks-2 : tie.Need-slice-write-marks-2
+slice-write-marks-2 c = search needs
 
 mul-places : tie.Need-mul-places
 mul-places c = search needs
@@ -32,14 +39,17 @@ same-length-3 : tie.Need-same-length-3
 same-length-3 c = search needs
 
 returns : tie.Need-returns
-returns c = search needs
+unfolding mark
+returns c = (rw (c .before .low-bucket .ensures .0, c .high-bucket .ensures .0) refl, refl, refl)
 
 pub remember-spec : {M : Type 1} → statement M
 remember-spec =
     tie.close
     (tie.spec
-    rem-b
+    low-bucket-requires
+    high-bucket-requires
     slice-write-marks
+    slice-write-marks-2
     mul-places
     slice-write-places
     mul-hashes

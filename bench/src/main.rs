@@ -1,0 +1,186 @@
+//! The proved library against the Rust, on the same token lists, in one run.
+//!
+//!     bench            ratios at 60,000 tokens, then growth from 1,000 to 64,000
+//!     bench --names    the test for repeated names alone: microseconds a file, by the number of macros
+//!     bench --quick    fewer rounds: whether all of it runs, not figures
+//!
+//! What is timed: on one side a call of `simmerotter_read_file` with tables of exactly the need, which it zeroes itself; on the other `Parser::new(list, None)` and
+//! `parse()`, whose list was cloned before. Freeing is timed on neither. Beside them a call that makes its own room (`Room`), and a bare pass that adds up the token list's words.
+
+mod shapes;
+mod timing;
+#[allow(dead_code)]
+#[path = "../../oracle/driver/src/tokens.rs"]
+mod tokens;
+
+use huff_parser::Parser;
+use huff_utils::token::Token;
+use shapes::{List, SHAPES};
+use simmerotter::{raw, Room};
+use std::hint::black_box;
+use timing::{sample, spread, Spread};
+
+/// The lent tables, each exactly as long as a list needs.
+struct Tables {
+    kept: Vec<u32>,
+    definitions: Vec<u32>,
+    statements: Vec<u32>,
+    arguments: Vec<u32>,
+}
+
+impl Tables {
+    /// Learns the need from a call with more than can be needed.
+    fn exact(list: &List) -> Tables {
+        let n = list.tokens();
+        let mut large = Tables { kept: vec![0; n], definitions: vec![0; 12 * n], statements: vec![0; 8 * n], arguments: vec![0; 7 * n] };
+        let [number, cursor, definitions, statements, arguments] = large.read(list);
+        assert_eq!(number, 0, "the list is refused at {cursor}");
+        Tables {
+            kept: vec![0; cursor as usize + 1],
+            definitions: vec![0; 12 * definitions as usize],
+            statements: vec![0; 8 * statements as usize],
+            arguments: vec![0; 7 * arguments as usize],
+        }
+    }
+
+    fn read(&mut self, list: &List) -> [u64; 5] {
+        raw::read_file(&list.text, &list.words, &mut self.kept, &mut self.definitions, &mut self.statements, &mut self.arguments)
+    }
+
+    /// Bytes of all that a call reads or writes.
+    fn bytes(&self, list: &List) -> usize {
+        list.text.len() + 4 * (list.words.len() + self.kept.len() + self.definitions.len() + self.statements.len() + self.arguments.len())
+    }
+}
+
+/// Nanoseconds a call: the library, the library with its own room, the Rust, a bare pass.
+struct Times {
+    tokens: usize,
+    bytes: usize,
+    library: Spread,
+    room: Spread,
+    rust: Spread,
+    pass: Spread,
+    ratio: Spread,
+}
+
+fn rust_sample(list: &[Token], turns: usize) -> f64 {
+    let mut lists: Vec<Vec<Token>> = (0..turns).map(|_| list.to_vec()).collect();
+    let mut kept = Vec::with_capacity(turns);
+    sample(turns, || {
+        let mut parser = Parser::new(lists.pop().unwrap_or_default(), None);
+        let read = parser.parse();
+        assert!(read.is_ok(), "the Rust refuses the list");
+        kept.push((parser, read));
+    })
+}
+
+fn measure(list: &List, rounds: usize) -> Times {
+    let built = tokens::build(&list.text, &list.words).expect("tokens that the Rust can hold");
+    let mut tables = Tables::exact(list);
+    let mut room = Room::new();
+    let turns = (200_000 / list.tokens()).max(2);
+    let (mut library, mut own, mut rust, mut pass, mut ratio) = (vec![], vec![], vec![], vec![], vec![]);
+    for _ in 0..rounds {
+        let a = sample(turns, || {
+            black_box(tables.read(black_box(list)));
+        });
+        let b = sample(turns, || {
+            black_box(room.read_file(black_box(&list.text), black_box(&list.words)).is_ok());
+        });
+        let c = rust_sample(&built, (turns / 8).max(1));
+        let d = sample(turns, || {
+            black_box(black_box(&list.words).iter().fold(0u32, |sum, &word| sum.wrapping_add(word)));
+        });
+        library.push(a);
+        own.push(b);
+        rust.push(c);
+        pass.push(d);
+        ratio.push(c / a);
+    }
+    Times {
+        tokens: list.tokens(),
+        bytes: tables.bytes(list),
+        library: spread(library),
+        room: spread(own),
+        rust: spread(rust),
+        pass: spread(pass),
+        ratio: spread(ratio),
+    }
+}
+
+/// A time as nanoseconds a token.
+fn each(times: &Times, time: f64) -> f64 {
+    time / times.tokens as f64
+}
+
+fn ratios(rounds: usize) {
+    println!("60,000 tokens, {rounds} rounds; least, middle and greatest; nanoseconds a token");
+    println!();
+    println!("| Shape | Tokens | Rust / library | Library | With own room | Rust | Bare pass | Bytes a token |");
+    println!("|---|---|---|---|---|---|---|---|");
+    for (name, make) in SHAPES {
+        let times = measure(&make(60_000), rounds);
+        let show = |s: Spread| format!("{:.1} {:.1} {:.1}", each(&times, s.least), each(&times, s.middle), each(&times, s.greatest));
+        println!(
+            "| {name} | {} | {:.1} {:.1} {:.1} | {} | {} | {} | {} | {:.1} |",
+            times.tokens,
+            times.ratio.least,
+            times.ratio.middle,
+            times.ratio.greatest,
+            show(times.library),
+            show(times.room),
+            show(times.rust),
+            show(times.pass),
+            times.bytes as f64 / times.tokens as f64
+        );
+    }
+}
+
+const SIZES: [usize; 7] = [1_000, 2_000, 4_000, 8_000, 16_000, 32_000, 64_000];
+
+fn growth(rounds: usize) {
+    println!();
+    println!("Growth: nanoseconds a token, middle of {rounds} rounds, library / Rust");
+    println!();
+    println!("| Shape | {} |", SIZES.map(|n| n.to_string()).join(" | "));
+    println!("|---|{}", "---|".repeat(SIZES.len()));
+    for (name, make) in SHAPES {
+        let cells = SIZES.map(|n| {
+            let times = measure(&make(n), rounds);
+            format!("{:.1} / {:.0}", each(&times, times.library.middle), each(&times, times.rust.middle))
+        });
+        println!("| {name} | {} |", cells.join(" | "));
+    }
+}
+
+const COUNTS: [usize; 8] = [1, 10, 100, 500, 1_000, 2_000, 4_000, 8_000];
+
+/// A file of so many shortest macros, a call: least, middle and greatest of the rounds, in microseconds.
+fn names(rounds: usize) {
+    println!("Files of macros with nothing in them, {rounds} rounds; microseconds a call, least, middle and greatest");
+    println!();
+    println!("| Names | {} |", COUNTS.map(|n| n.to_string()).join(" | "));
+    println!("|---|{}", "---|".repeat(COUNTS.len()));
+    for (name, front) in [("short", "M"), ("57 bytes alike in front", "SETTLE_THE_REFUND_OF_AN_ORDER_THAT_THE_STORE_HAS_ACCEPTED")] {
+        let cells = COUNTS.map(|count| {
+            let list = shapes::names(count, front);
+            let mut tables = Tables::exact(&list);
+            let turns = (20_000 / list.tokens()).max(1);
+            let times = (0..rounds).map(|_| sample(turns, || { black_box(tables.read(black_box(&list))); })).collect();
+            let Spread { least, middle, greatest } = spread(times);
+            format!("{:.1} {:.1} {:.1}", least / 1e3, middle / 1e3, greatest / 1e3)
+        });
+        println!("| {name} | {} |", cells.join(" | "));
+    }
+}
+
+fn main() {
+    let asked = |option: &str| std::env::args().any(|word| word == option);
+    let (many, few) = if asked("--quick") { (2, 1) } else { (15, 7) };
+    if asked("--names") {
+        return names(many);
+    }
+    ratios(many);
+    growth(few);
+}

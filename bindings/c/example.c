@@ -1,0 +1,162 @@
+/*
+ * Reads two bodies and a file, and checks every number and word that the calls leave: the examples of docs/CASES.md. Every lent
+ * list has a length of its own, so that arguments in another order than the archive's would be seen.
+ */
+#include <stdio.h>
+#include <string.h>
+
+#include "simmerotter.h"
+
+#define LENGTH(list) (sizeof(list) / sizeof((list)[0]))
+#define FILL 2779096485u
+
+static int failures = 0;
+
+static void fill(uint32_t *list, size_t length)
+{
+    for (size_t i = 0; i < length; i++)
+        list[i] = FILL;
+}
+
+static void expect_words(const char *what, const uint32_t *got, const uint32_t *wanted, size_t length)
+{
+    for (size_t i = 0; i < length; i++) {
+        if (got[i] != wanted[i]) {
+            printf("%s at %zu: wanted %lu, got %lu\n", what, i, (unsigned long)wanted[i], (unsigned long)got[i]);
+            failures++;
+        }
+    }
+}
+
+static void expect_answer(const char *what, const uint64_t *got, const uint64_t *wanted)
+{
+    for (size_t i = 0; i < SIMMEROTTER_ANSWER_NUMBERS; i++) {
+        if (got[i] != wanted[i]) {
+            printf("%s, answer at %zu: wanted %llu, got %llu\n", what, i, (unsigned long long)wanted[i],
+                (unsigned long long)got[i]);
+            failures++;
+        }
+    }
+}
+
+/* { PUSH1 0xff }: a kept list of six words, two records and a word of statements, no argument record but a word. */
+static void read_push(void)
+{
+    static const char text[] = "{ PUSH1 0xff }";
+    static const uint32_t tokens[] = {
+        SIMMEROTTER_KIND_OPEN_BRACE, 0, 1, 0, SIMMEROTTER_KIND_OPCODE, 2, 7, 0x60, SIMMEROTTER_KIND_LITERAL, 8, 12, 0,
+        SIMMEROTTER_KIND_CLOSE_BRACE, 13, 14, 0, SIMMEROTTER_KIND_EOF, 14, 14, 0,
+    };
+    static const uint32_t wanted_kept[6] = {0, 1, 2, 3, 4, FILL};
+    static const uint32_t wanted_statements[17] = {
+        SIMMEROTTER_STATEMENT_OPCODE, 1, 2, 1, 0, 0, 0, 1, SIMMEROTTER_STATEMENT_LITERAL, 2, 3, 2, 0, 0, 0, 2, 0,
+    };
+    static const uint32_t wanted_arguments[1] = {0};
+    static const uint64_t wanted[SIMMEROTTER_ANSWER_NUMBERS] = {SIMMEROTTER_ACCEPTED, 4, 2, 0, 2};
+    uint32_t kept[6], statements[17], arguments[1];
+    uint64_t answer[SIMMEROTTER_ANSWER_NUMBERS] = {99, 99, 99, 99, 99};
+
+    fill(kept, LENGTH(kept));
+    fill(statements, LENGTH(statements));
+    fill(arguments, LENGTH(arguments));
+    simmerotter_read_body((const uint8_t *)text, strlen(text), tokens, LENGTH(tokens), 0, kept, LENGTH(kept), statements,
+        LENGTH(statements), arguments, LENGTH(arguments), answer);
+    expect_answer("push", answer, wanted);
+    expect_words("push, kept", kept, wanted_kept, LENGTH(kept));
+    expect_words("push, statements", statements, wanted_statements, LENGTH(statements));
+    expect_words("push, arguments", arguments, wanted_arguments, LENGTH(arguments));
+    if (statements[SIMMEROTTER_STATEMENT_WORDS + SIMMEROTTER_STATEMENT_VALUE] != 2) {
+        printf("push: the literal's place is not 2\n");
+        failures++;
+    }
+}
+
+/* { PUSH1 } with a kept list that is one word short: refused, and nothing lent has changed. */
+static void read_short(void)
+{
+    static const char text[] = "{ PUSH1 }";
+    static const uint32_t tokens[] = {
+        SIMMEROTTER_KIND_OPEN_BRACE, 0, 1, 0, SIMMEROTTER_KIND_OPCODE, 2, 7, 0x60, SIMMEROTTER_KIND_CLOSE_BRACE, 8, 9, 0,
+        SIMMEROTTER_KIND_EOF, 9, 9, 0,
+    };
+    static const uint64_t wanted[SIMMEROTTER_ANSWER_NUMBERS] = {SIMMEROTTER_KEPT_TOO_SHORT, 4, 0, 0, 0};
+    uint32_t kept[3], statements[8], arguments[7], untouched[8];
+    uint64_t answer[SIMMEROTTER_ANSWER_NUMBERS] = {99, 99, 99, 99, 99};
+
+    fill(kept, LENGTH(kept));
+    fill(statements, LENGTH(statements));
+    fill(arguments, LENGTH(arguments));
+    fill(untouched, LENGTH(untouched));
+    simmerotter_read_body((const uint8_t *)text, strlen(text), tokens, LENGTH(tokens), 0, kept, LENGTH(kept), statements,
+        LENGTH(statements), arguments, LENGTH(arguments), answer);
+    expect_answer("short", answer, wanted);
+    expect_words("short, kept", kept, untouched, LENGTH(kept));
+    expect_words("short, statements", statements, untouched, LENGTH(statements));
+    expect_words("short, arguments", arguments, untouched, LENGTH(arguments));
+}
+
+/* #define table T { abc }: every list a word or more longer than it needs to be, each by another number. */
+static void read_table(void)
+{
+    static const char text[] = "#define table T { abc }";
+    static const uint32_t tokens[] = {
+        SIMMEROTTER_KIND_DEFINE, 0, 7, 0, SIMMEROTTER_KIND_CODE_TABLE, 8, 13, 0, SIMMEROTTER_KIND_IDENT, 14, 15, 0,
+        SIMMEROTTER_KIND_OPEN_BRACE, 16, 17, 0, SIMMEROTTER_KIND_IDENT, 18, 21, 0, SIMMEROTTER_KIND_CLOSE_BRACE, 22, 23, 0,
+        SIMMEROTTER_KIND_EOF, 23, 23, 0,
+    };
+    static const uint32_t wanted_kept[8] = {0, 1, 2, 3, 4, 5, 6, FILL};
+    static const uint32_t wanted_definitions[14] = {SIMMEROTTER_DEFINITION_CODE_TABLE, 2, 0, 6, 0, 0, 0, 0, 0, 1, 1, 0, 0, 0};
+    static const uint32_t wanted_statements[11] = {SIMMEROTTER_STATEMENT_CODE, 4, 5, 1, 0, 0, 0, 4, 0, 0, 0};
+    static const uint32_t wanted_arguments[5] = {0, 0, 0, 0, 0};
+    static const uint64_t wanted[SIMMEROTTER_ANSWER_NUMBERS] = {SIMMEROTTER_ACCEPTED, 6, 1, 1, 0};
+    uint32_t kept[8], definitions[14], statements[11], arguments[5];
+    uint64_t answer[SIMMEROTTER_ANSWER_NUMBERS] = {99, 99, 99, 99, 99};
+
+    fill(kept, LENGTH(kept));
+    fill(definitions, LENGTH(definitions));
+    fill(statements, LENGTH(statements));
+    fill(arguments, LENGTH(arguments));
+    simmerotter_read_file((const uint8_t *)text, strlen(text), tokens, LENGTH(tokens), kept, LENGTH(kept), definitions,
+        LENGTH(definitions), statements, LENGTH(statements), arguments, LENGTH(arguments), answer);
+    expect_answer("table", answer, wanted);
+    expect_words("table, kept", kept, wanted_kept, LENGTH(kept));
+    expect_words("table, definitions", definitions, wanted_definitions, LENGTH(definitions));
+    expect_words("table, statements", statements, wanted_statements, LENGTH(statements));
+    expect_words("table, arguments", arguments, wanted_arguments, LENGTH(arguments));
+    if (definitions[SIMMEROTTER_DEFINITION_A] != 1) {
+        printf("table: its size is not 1\n");
+        failures++;
+    }
+}
+
+/* { } behind a comment, read from place 1: the start is counted in kept tokens, and no table is lent. */
+static void read_later_body(void)
+{
+    static const char text[] = "a/**/{}";
+    static const uint32_t tokens[] = {
+        SIMMEROTTER_KIND_IDENT, 0, 1, 0, SIMMEROTTER_KIND_COMMENT, 1, 5, 0, SIMMEROTTER_KIND_OPEN_BRACE, 5, 6, 0,
+        SIMMEROTTER_KIND_CLOSE_BRACE, 6, 7, 0, SIMMEROTTER_KIND_EOF, 7, 7, 0,
+    };
+    static const uint32_t wanted_kept[4] = {0, 2, 3, 4};
+    static const uint64_t wanted[SIMMEROTTER_ANSWER_NUMBERS] = {SIMMEROTTER_ACCEPTED, 3, 0, 0, 0};
+    uint32_t kept[4], nothing_here[1], nothing_there[1];
+    uint64_t answer[SIMMEROTTER_ANSWER_NUMBERS] = {99, 99, 99, 99, 99};
+
+    fill(kept, LENGTH(kept));
+    simmerotter_read_body((const uint8_t *)text, strlen(text), tokens, LENGTH(tokens), 1, kept, LENGTH(kept), nothing_here, 0,
+        nothing_there, 0, answer);
+    expect_answer("later body", answer, wanted);
+    expect_words("later body, kept", kept, wanted_kept, LENGTH(kept));
+}
+
+int main(void)
+{
+    read_push();
+    read_short();
+    read_table();
+    read_later_body();
+    if (failures != 0)
+        return 1;
+    printf("C: four calls as they should be\n");
+    return 0;
+}

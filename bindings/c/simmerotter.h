@@ -1,0 +1,259 @@
+/*
+ * Simmerotter for C: reads the token list of a Huff file or of one macro body into tables that the caller lends.
+ *
+ * Before a call
+ * - A list passes as a pointer and its length in elements: bytes of text, 32-bit words elsewhere. A token is four words.
+ * - No pointer may be null, at length 0 either: give any aligned address then.
+ * - The lent lists (kept, definitions, statements, arguments) and the answer must not overlap anything else that is passed.
+ * - A call takes up to about 400 KB of stack. Calls share nothing: threads may call at once, each with lists of its own.
+ *
+ * Room that always suffices, for n tokens: n words of kept list, n / 2 definition records, n statement records, n argument
+ * records. With less, a call answers 32 to 35 and its cursor says how many records (kept list: words) are needed.
+ *
+ * After a call
+ * - answer[SIMMEROTTER_NUMBER] is 0 if the input was accepted, else a refusal's number.
+ * - After 30, 31 and 35 nothing lent has changed.
+ * - Otherwise the first words of the kept list hold the numbers of the tokens that are neither Whitespace nor Comment, in order,
+ *   and its other words are untouched. The tables hold the records followed by zeros; after a refusal, only zeros.
+ * - A place counts kept tokens from 0: place p is the token whose four words start at tokens[4 * kept[p]]. Ends are exclusive.
+ */
+#ifndef SIMMEROTTER_H
+#define SIMMEROTTER_H
+
+#include <stddef.h>
+#include <stdint.h>
+
+#ifdef __cplusplus
+extern "C" {
+#endif
+
+/* Limits: a longer text or list is answered by 30 with cursor 0. */
+#define SIMMEROTTER_MAX_TEXT 1048576u
+#define SIMMEROTTER_MAX_TOKENS 65536u
+
+/* Words of a token and of each record, and numbers of an answer. */
+#define SIMMEROTTER_TOKEN_WORDS 4
+#define SIMMEROTTER_DEFINITION_WORDS 12
+#define SIMMEROTTER_STATEMENT_WORDS 8
+#define SIMMEROTTER_ARGUMENT_WORDS 7
+#define SIMMEROTTER_ANSWER_NUMBERS 5
+
+/* A place that is absent; as a plain length: the body has none. */
+#define SIMMEROTTER_NONE 4294967295u
+
+/* Reads a whole file. */
+void simmerotter_read_file(
+    const uint8_t *text, size_t text_len,
+    const uint32_t *tokens, size_t tokens_len,
+    uint32_t *kept, size_t kept_len,
+    uint32_t *definitions, size_t definitions_len,
+    uint32_t *statements, size_t statements_len,
+    uint32_t *arguments, size_t arguments_len,
+    uint64_t answer[SIMMEROTTER_ANSWER_NUMBERS]);
+
+/* Reads one body, whose opening brace is at place `start`. What follows the body's closing brace is not read. */
+void simmerotter_read_body(
+    const uint8_t *text, size_t text_len,
+    const uint32_t *tokens, size_t tokens_len,
+    size_t start,
+    uint32_t *kept, size_t kept_len,
+    uint32_t *statements, size_t statements_len,
+    uint32_t *arguments, size_t arguments_len,
+    uint64_t answer[SIMMEROTTER_ANSWER_NUMBERS]);
+
+/* The numbers of an answer. After a refusal the last three are 0. */
+enum simmerotter_answer {
+    SIMMEROTTER_NUMBER = 0, /* 0 accepted, else one of simmerotter_refusal */
+    SIMMEROTTER_CURSOR = 1, /* accepted: the place of Eof, or one past the closing brace; else see simmerotter_refusal */
+    SIMMEROTTER_FILE_DEFINITIONS = 2,
+    SIMMEROTTER_FILE_STATEMENTS = 3,
+    SIMMEROTTER_FILE_ARGUMENTS = 4,
+    SIMMEROTTER_BODY_STATEMENTS = 2,
+    SIMMEROTTER_BODY_ARGUMENTS = 3,
+    SIMMEROTTER_BODY_PLAIN_LENGTH = 4 /* bytes of code, or SIMMEROTTER_NONE */
+};
+
+/* Why input was refused. For 1 to 21 the cursor is a place. */
+enum simmerotter_refusal {
+    SIMMEROTTER_ACCEPTED = 0,
+    SIMMEROTTER_UNEXPECTED_TYPE = 1,
+    SIMMEROTTER_INVALID_DEFINITION = 2,
+    SIMMEROTTER_INVALID_CONSTANT_VALUE = 3,
+    SIMMEROTTER_INVALID_PUSH = 4,
+    SIMMEROTTER_INVALID_TOKEN_IN_MACRO_BODY = 5,
+    SIMMEROTTER_INVALID_TOKEN_IN_LABEL_DEFINITION = 6,
+    SIMMEROTTER_INVALID_TYPE_AS_ARGUMENT_NAME = 7,
+    SIMMEROTTER_INVALID_ARGS = 8,
+    SIMMEROTTER_INVALID_SINGLE_ARG = 9,
+    SIMMEROTTER_INVALID_MACRO_ARGS = 10,
+    SIMMEROTTER_INVALID_TABLE_BODY_TOKEN = 11,
+    SIMMEROTTER_INVALID_CONSTANT = 12,
+    SIMMEROTTER_INVALID_ARG_CALL_IDENT = 13,
+    SIMMEROTTER_REPEATED_NAME = 20,        /* cursor: the later name */
+    SIMMEROTTER_POUND_AT_TOP_LEVEL = 21,
+    SIMMEROTTER_NOT_WELL_FORMED = 30,      /* cursor: the first bad token's number in the lent list, or 0 */
+    SIMMEROTTER_START_OUTSIDE = 31,        /* cursor: that start */
+    SIMMEROTTER_DEFINITIONS_TOO_SMALL = 32, /* cursor: the records needed */
+    SIMMEROTTER_STATEMENTS_TOO_SMALL = 33, /* cursor: the records needed */
+    SIMMEROTTER_ARGUMENTS_TOO_SMALL = 34,  /* cursor: the records needed */
+    SIMMEROTTER_KEPT_TOO_SHORT = 35        /* cursor: the words needed */
+};
+
+/* The words of a token. Start and end count bytes of the text. */
+enum simmerotter_token {
+    SIMMEROTTER_TOKEN_KIND = 0, /* one of simmerotter_kind */
+    SIMMEROTTER_TOKEN_START = 1,
+    SIMMEROTTER_TOKEN_END = 2,
+    SIMMEROTTER_TOKEN_EXTRA = 3 /* the byte of an Opcode, the number of a Num, else 0 */
+};
+
+/* The kinds of token. */
+enum simmerotter_kind {
+    SIMMEROTTER_KIND_EOF = 0,
+    SIMMEROTTER_KIND_WHITESPACE = 1,
+    SIMMEROTTER_KIND_COMMENT = 2,
+    SIMMEROTTER_KIND_INCLUDE = 3,
+    SIMMEROTTER_KIND_DEFINE = 4,
+    SIMMEROTTER_KIND_POUND = 5,
+    SIMMEROTTER_KIND_MACRO = 6,
+    SIMMEROTTER_KIND_FN = 7,
+    SIMMEROTTER_KIND_TEST = 8,
+    SIMMEROTTER_KIND_FUNCTION = 9,
+    SIMMEROTTER_KIND_EVENT = 10,
+    SIMMEROTTER_KIND_CONSTANT = 11,
+    SIMMEROTTER_KIND_ERROR = 12,
+    SIMMEROTTER_KIND_JUMP_TABLE = 13,
+    SIMMEROTTER_KIND_JUMP_TABLE_PACKED = 14,
+    SIMMEROTTER_KIND_CODE_TABLE = 15,
+    SIMMEROTTER_KIND_TAKES = 16,
+    SIMMEROTTER_KIND_RETURNS = 17,
+    SIMMEROTTER_KIND_VIEW = 18,
+    SIMMEROTTER_KIND_PURE = 19,
+    SIMMEROTTER_KIND_PAYABLE = 20,
+    SIMMEROTTER_KIND_NON_PAYABLE = 21,
+    SIMMEROTTER_KIND_INDEXED = 22,
+    SIMMEROTTER_KIND_CALLDATA = 23,
+    SIMMEROTTER_KIND_MEMORY = 24,
+    SIMMEROTTER_KIND_STORAGE = 25,
+    SIMMEROTTER_KIND_ASSIGN = 26,
+    SIMMEROTTER_KIND_OPEN_PAREN = 27,
+    SIMMEROTTER_KIND_CLOSE_PAREN = 28,
+    SIMMEROTTER_KIND_OPEN_BRACE = 29,
+    SIMMEROTTER_KIND_CLOSE_BRACE = 30,
+    SIMMEROTTER_KIND_OPEN_BRACKET = 31,
+    SIMMEROTTER_KIND_CLOSE_BRACKET = 32,
+    SIMMEROTTER_KIND_LEFT_ANGLE = 33,
+    SIMMEROTTER_KIND_RIGHT_ANGLE = 34,
+    SIMMEROTTER_KIND_COMMA = 35,
+    SIMMEROTTER_KIND_COLON = 36,
+    SIMMEROTTER_KIND_FREE_STORAGE_POINTER = 37,
+    SIMMEROTTER_KIND_IDENT = 38,
+    SIMMEROTTER_KIND_LABEL = 39,
+    SIMMEROTTER_KIND_LITERAL = 40,
+    SIMMEROTTER_KIND_OPCODE = 41,
+    SIMMEROTTER_KIND_NUM = 42,
+    SIMMEROTTER_KIND_STR = 43,
+    SIMMEROTTER_KIND_BUILTIN_FUNCTION = 44,
+    SIMMEROTTER_KIND_PRIMITIVE_TYPE = 45
+};
+
+/* The words of a definition's record. A "first" word is a record's number in its table, and means nothing more at count 0. */
+enum simmerotter_definition {
+    SIMMEROTTER_DEFINITION_KIND = 0, /* one of simmerotter_definition_kind */
+    SIMMEROTTER_DEFINITION_NAME = 1, /* a place; an import's is its Str */
+    SIMMEROTTER_DEFINITION_FIRST = 2, /* the place of Define or Include */
+    SIMMEROTTER_DEFINITION_END = 3,
+    SIMMEROTTER_DEFINITION_FIRST_ARGUMENT = 4,
+    SIMMEROTTER_DEFINITION_ARGUMENTS = 5,
+    SIMMEROTTER_DEFINITION_FIRST_OUTPUT = 6, /* a function's outputs are argument records too */
+    SIMMEROTTER_DEFINITION_OUTPUTS = 7,
+    SIMMEROTTER_DEFINITION_FIRST_STATEMENT = 8,
+    SIMMEROTTER_DEFINITION_STATEMENTS = 9, /* those inside labels counted */
+    /* Macro, fn, test: takes, returns. Function: one of simmerotter_function_type, 0. Constant: one of simmerotter_value, its
+     * place. Table: its size in bytes, 0. Else 0, 0. */
+    SIMMEROTTER_DEFINITION_A = 10,
+    SIMMEROTTER_DEFINITION_B = 11
+};
+
+enum simmerotter_definition_kind {
+    SIMMEROTTER_DEFINITION_IMPORT = 1,
+    SIMMEROTTER_DEFINITION_FUNCTION = 2,
+    SIMMEROTTER_DEFINITION_EVENT = 3,
+    SIMMEROTTER_DEFINITION_CONSTANT = 4,
+    SIMMEROTTER_DEFINITION_ERROR = 5,
+    SIMMEROTTER_DEFINITION_MACRO = 6,
+    SIMMEROTTER_DEFINITION_FN = 7,
+    SIMMEROTTER_DEFINITION_TEST = 8,
+    SIMMEROTTER_DEFINITION_JUMP_TABLE = 9,
+    SIMMEROTTER_DEFINITION_JUMP_TABLE_PACKED = 10,
+    SIMMEROTTER_DEFINITION_CODE_TABLE = 11
+};
+
+enum simmerotter_function_type {
+    SIMMEROTTER_FUNCTION_VIEW = 1,
+    SIMMEROTTER_FUNCTION_PURE = 2,
+    SIMMEROTTER_FUNCTION_PAYABLE = 3,
+    SIMMEROTTER_FUNCTION_NON_PAYABLE = 4
+};
+
+enum simmerotter_value {
+    SIMMEROTTER_VALUE_LITERAL = 1,
+    SIMMEROTTER_VALUE_FREE_STORAGE_POINTER = 2
+};
+
+/* The words of a statement's record. A label's inner records follow it directly. */
+enum simmerotter_statement {
+    SIMMEROTTER_STATEMENT_TYPE = 0, /* one of simmerotter_statement_type */
+    SIMMEROTTER_STATEMENT_FIRST = 1,
+    SIMMEROTTER_STATEMENT_END = 2,
+    SIMMEROTTER_STATEMENT_FIRST_INNER = 3,
+    SIMMEROTTER_STATEMENT_INNER = 4,
+    SIMMEROTTER_STATEMENT_FIRST_ARGUMENT = 5,
+    SIMMEROTTER_STATEMENT_ARGUMENTS = 6,
+    SIMMEROTTER_STATEMENT_VALUE = 7 /* the place of the name or value token */
+};
+
+enum simmerotter_statement_type {
+    SIMMEROTTER_STATEMENT_LITERAL = 1,
+    SIMMEROTTER_STATEMENT_OPCODE = 2,
+    SIMMEROTTER_STATEMENT_LABEL_CALL = 3,
+    SIMMEROTTER_STATEMENT_INVOCATION = 4,
+    SIMMEROTTER_STATEMENT_LABEL = 5,
+    SIMMEROTTER_STATEMENT_CONSTANT = 6,
+    SIMMEROTTER_STATEMENT_ARGUMENT_CALL = 7,
+    SIMMEROTTER_STATEMENT_BUILTIN = 8,
+    SIMMEROTTER_STATEMENT_CODE = 9
+};
+
+/* The words of an argument's record. Commas lie outside its range. */
+enum simmerotter_argument {
+    SIMMEROTTER_ARGUMENT_FORM = 0, /* one of simmerotter_argument_form */
+    SIMMEROTTER_ARGUMENT_TYPE = 1, /* a place or SIMMEROTTER_NONE */
+    SIMMEROTTER_ARGUMENT_NAME = 2, /* a place or SIMMEROTTER_NONE; forms 2 to 5: their token; 6: the name in the angles */
+    SIMMEROTTER_ARGUMENT_INDEXED = 3, /* 1 or 0 */
+    SIMMEROTTER_ARGUMENT_LOCATION = 4, /* one of simmerotter_location */
+    SIMMEROTTER_ARGUMENT_FIRST = 5,
+    SIMMEROTTER_ARGUMENT_END = 6
+};
+
+enum simmerotter_argument_form {
+    SIMMEROTTER_ARGUMENT_DECLARED = 1, /* declared, or a name given to a builtin */
+    SIMMEROTTER_ARGUMENT_STR = 2,
+    SIMMEROTTER_ARGUMENT_LITERAL = 3,
+    SIMMEROTTER_ARGUMENT_CALL_LITERAL = 4,
+    SIMMEROTTER_ARGUMENT_CALL_NAME = 5,
+    SIMMEROTTER_ARGUMENT_CALL_ARGUMENT = 6 /* <name> */
+};
+
+enum simmerotter_location {
+    SIMMEROTTER_LOCATION_NONE = 0,
+    SIMMEROTTER_LOCATION_CALLDATA = 1,
+    SIMMEROTTER_LOCATION_MEMORY = 2,
+    SIMMEROTTER_LOCATION_STORAGE = 3
+};
+
+#ifdef __cplusplus
+}
+#endif
+
+#endif

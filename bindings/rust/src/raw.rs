@@ -1,0 +1,101 @@
+//! The archive's two functions over slices, as they are: the caller lends every list and reads the five numbers.
+//!
+//! A call takes up to about 400 KB of stack. Calls share nothing, so threads may call at once.
+
+#![allow(unsafe_code)]
+
+extern "C" {
+    fn simmerotter_read_file(
+        text: *const u8,
+        text_len: usize,
+        tokens: *const u32,
+        tokens_len: usize,
+        kept: *mut u32,
+        kept_len: usize,
+        definitions: *mut u32,
+        definitions_len: usize,
+        statements: *mut u32,
+        statements_len: usize,
+        arguments: *mut u32,
+        arguments_len: usize,
+        answer: *mut u64,
+    );
+
+    fn simmerotter_read_body(
+        text: *const u8,
+        text_len: usize,
+        tokens: *const u32,
+        tokens_len: usize,
+        start: usize,
+        kept: *mut u32,
+        kept_len: usize,
+        statements: *mut u32,
+        statements_len: usize,
+        arguments: *mut u32,
+        arguments_len: usize,
+        answer: *mut u64,
+    );
+}
+
+/// Reads a whole file. The answer: number (0 accepted), cursor, definitions, statements, arguments.
+pub fn read_file(
+    text: &[u8],
+    tokens: &[u32],
+    kept: &mut [u32],
+    definitions: &mut [u32],
+    statements: &mut [u32],
+    arguments: &mut [u32],
+) -> [u64; 5] {
+    let mut answer = [0; 5];
+    // A slice's pointer is aligned and never null, of an empty one too; its length is the one that goes with it; and the
+    // borrow checker keeps the lent lists apart from each other and from what is read. That is all the archive asks.
+    unsafe {
+        simmerotter_read_file(
+            text.as_ptr(),
+            text.len(),
+            tokens.as_ptr(),
+            tokens.len(),
+            kept.as_mut_ptr(),
+            kept.len(),
+            definitions.as_mut_ptr(),
+            definitions.len(),
+            statements.as_mut_ptr(),
+            statements.len(),
+            arguments.as_mut_ptr(),
+            arguments.len(),
+            answer.as_mut_ptr(),
+        );
+    }
+    answer
+}
+
+/// Reads the body whose opening brace is at place `start`. The answer: number (0 accepted), cursor, statements, arguments,
+/// plain length ([`crate::NONE`] if the body has none).
+pub fn read_body(
+    text: &[u8],
+    tokens: &[u32],
+    start: usize,
+    kept: &mut [u32],
+    statements: &mut [u32],
+    arguments: &mut [u32],
+) -> [u64; 5] {
+    let mut answer = [0; 5];
+    // As in `read_file`.
+    unsafe {
+        simmerotter_read_body(
+            text.as_ptr(),
+            text.len(),
+            tokens.as_ptr(),
+            tokens.len(),
+            start,
+            kept.as_mut_ptr(),
+            kept.len(),
+            statements.as_mut_ptr(),
+            statements.len(),
+            arguments.as_mut_ptr(),
+            arguments.len(),
+            answer.as_mut_ptr(),
+        );
+    }
+    answer
+}

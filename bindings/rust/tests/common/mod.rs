@@ -1,0 +1,252 @@
+//! What the tests share: the fixed list of vectors, token lists written by hand, lent lists and chance.
+
+#![allow(dead_code)]
+
+use simmerotter::{push_token, raw, Kind, TOKEN_WORDS};
+use std::fs;
+use std::path::Path;
+
+/// What every lent word of a vector holds before the call.
+pub const FILL: u32 = 2_779_096_485;
+
+/// A vector of `crates/vectors/stdin`; docs/VECTORS.md has the format.
+pub struct Vector {
+    pub line: usize,
+    pub section: u32,
+    pub is_body: bool,
+    pub start: usize,
+    pub text: Vec<u8>,
+    pub tokens: Vec<u32>,
+    pub answer: [u64; 5],
+    pub wanted: Lists,
+}
+
+/// The four lent lists.
+#[derive(Clone, Debug, PartialEq, Eq)]
+pub struct Lists {
+    pub kept: Vec<u32>,
+    pub definitions: Vec<u32>,
+    pub statements: Vec<u32>,
+    pub arguments: Vec<u32>,
+}
+
+impl Lists {
+    /// Lists of these lengths that hold nothing but `word`.
+    pub fn filled(lengths: [usize; 4], word: u32) -> Lists {
+        let [kept, definitions, statements, arguments] = lengths.map(|length| vec![word; length]);
+        Lists { kept, definitions, statements, arguments }
+    }
+
+    /// Lists that are long enough for every list of so many tokens.
+    pub fn enough(tokens: &[u32]) -> Lists {
+        let count = tokens.len() / TOKEN_WORDS;
+        Lists::filled([count, 12 * (count / 2), 8 * count, 7 * count], FILL)
+    }
+
+    pub fn lengths(&self) -> [usize; 4] {
+        [self.kept.len(), self.definitions.len(), self.statements.len(), self.arguments.len()]
+    }
+
+    pub fn read_file(&mut self, text: &[u8], tokens: &[u32]) -> [u64; 5] {
+        raw::read_file(text, tokens, &mut self.kept, &mut self.definitions, &mut self.statements, &mut self.arguments)
+    }
+
+    pub fn read_body(&mut self, text: &[u8], tokens: &[u32], start: usize) -> [u64; 5] {
+        raw::read_body(text, tokens, start, &mut self.kept, &mut self.statements, &mut self.arguments)
+    }
+}
+
+impl Vector {
+    /// Calls the archive with lists like the vector's own.
+    pub fn call(&self) -> ([u64; 5], Lists) {
+        self.call_with(Lists::filled(self.wanted.lengths(), FILL))
+    }
+
+    /// Calls the archive with lists that are long enough.
+    pub fn call_with_enough(&self) -> ([u64; 5], Lists) {
+        self.call_with(Lists::enough(&self.tokens))
+    }
+
+    fn call_with(&self, mut lists: Lists) -> ([u64; 5], Lists) {
+        let answer = match self.is_body {
+            true => lists.read_body(&self.text, &self.tokens, self.start),
+            false => lists.read_file(&self.text, &self.tokens),
+        };
+        (answer, lists)
+    }
+}
+
+/// Every vector of the fixed list.
+pub fn vectors() -> Vec<Vector> {
+    let path = Path::new(env!("CARGO_MANIFEST_DIR")).join("../../crates/vectors/stdin");
+    let list = fs::read_to_string(&path).unwrap_or_else(|error| panic!("{}: {}", path.display(), error));
+    list.lines().enumerate().map(|(index, line)| vector(index + 1, line)).collect()
+}
+
+fn vector(line: usize, numbers: &str) -> Vector {
+    let mut numbers = numbers.split(' ').map(|number| number.parse::<u32>().expect("a number of 32 bits"));
+    let section = next(&mut numbers);
+    let is_body = next(&mut numbers) == 1;
+    let start = next_size(&mut numbers);
+    let lengths = [(); 4].map(|()| next_size(&mut numbers));
+    let text = counted(&mut numbers).into_iter().map(|byte| u8::try_from(byte).expect("a byte")).collect();
+    let tokens = counted(&mut numbers);
+    let answer = [(); 5].map(|()| u64::from(next(&mut numbers)));
+    let [kept, definitions, statements, arguments] = lengths.map(|length| take(&mut numbers, length));
+    assert!(numbers.next().is_none(), "vector {} is too long", line);
+    let wanted = Lists { kept, definitions, statements, arguments };
+    Vector { line, section, is_body, start, text, tokens, answer, wanted }
+}
+
+fn next(numbers: &mut impl Iterator<Item = u32>) -> u32 {
+    numbers.next().expect("a vector that is long enough")
+}
+
+fn next_size(numbers: &mut impl Iterator<Item = u32>) -> usize {
+    usize::try_from(next(numbers)).expect("a size")
+}
+
+fn take(numbers: &mut impl Iterator<Item = u32>, length: usize) -> Vec<u32> {
+    (0..length).map(|_| next(numbers)).collect()
+}
+
+fn counted(numbers: &mut impl Iterator<Item = u32>) -> Vec<u32> {
+    let length = next_size(numbers);
+    take(numbers, length)
+}
+
+/// A text and its token list.
+pub struct Source {
+    pub text: Vec<u8>,
+    pub tokens: Vec<u32>,
+}
+
+impl Source {
+    pub fn new() -> Source {
+        Source { text: Vec::new(), tokens: Vec::new() }
+    }
+
+    /// Adds a token.
+    pub fn put(&mut self, kind: Kind, text: &str, extra: u32) {
+        let start = self.length();
+        self.text.extend_from_slice(text.as_bytes());
+        let end = self.length();
+        push_token(&mut self.tokens, kind, start, end, extra);
+    }
+
+    /// Adds tokens, written with a space between each two; see `token_of`.
+    pub fn line(&mut self, line: &str) {
+        for word in line.split(' ') {
+            let (kind, text, extra) = token_of(word);
+            self.put(kind, text, extra);
+            self.put(Kind::Whitespace, " ", 0);
+        }
+    }
+
+    /// Adds the last token.
+    pub fn end(mut self) -> Source {
+        self.put(Kind::Eof, "", 0);
+        self
+    }
+
+    /// The same text, its white space left out of the token list.
+    pub fn without_space(self) -> Source {
+        let space = Kind::Whitespace.number();
+        let tokens = self.tokens.chunks(TOKEN_WORDS).filter(|token| token[0] != space).flatten().copied().collect();
+        Source { text: self.text, tokens }
+    }
+
+    fn length(&self) -> u32 {
+        u32::try_from(self.text.len()).expect("a short text")
+    }
+
+    pub fn of_lines(lines: &[&str]) -> Source {
+        let mut source = Source::new();
+        lines.iter().for_each(|line| source.line(line));
+        source.end()
+    }
+}
+
+/// The token of a word. `%` marks a type, `~` a label, `@` a builtin function, `"` a string, `op` and two hex digits an opcode.
+fn token_of(word: &str) -> (Kind, &str, u32) {
+    let marked = word.get(1..).unwrap_or("");
+    match word.chars().next() {
+        Some('%') => return (Kind::PrimitiveType, marked, 0),
+        Some('~') => return (Kind::Label, marked, 0),
+        Some('@') => return (Kind::BuiltinFunction, marked, 0),
+        Some('"') => return (Kind::Str, word, 0),
+        Some('0') if word.starts_with("0x") => return (Kind::Literal, word, 0),
+        Some('0'..='9') => return (Kind::Num, word, word.parse().expect("a number")),
+        Some('o') if word.starts_with("op") => {
+            return (Kind::Opcode, word, u32::from_str_radix(&word[2..], 16).expect("a byte"));
+        }
+        _ => {}
+    }
+    (keyword(word).unwrap_or(Kind::Ident), word, 0)
+}
+
+fn keyword(word: &str) -> Option<Kind> {
+    Some(match word {
+        "#include" => Kind::Include,
+        "#define" => Kind::Define,
+        "#" => Kind::Pound,
+        "macro" => Kind::Macro,
+        "fn" => Kind::Fn,
+        "test" => Kind::Test,
+        "function" => Kind::Function,
+        "event" => Kind::Event,
+        "constant" => Kind::Constant,
+        "error" => Kind::Error,
+        "jumptable" => Kind::JumpTable,
+        "packed" => Kind::JumpTablePacked,
+        "table" => Kind::CodeTable,
+        "takes" => Kind::Takes,
+        "returns" => Kind::Returns,
+        "view" => Kind::View,
+        "pure" => Kind::Pure,
+        "payable" => Kind::Payable,
+        "nonpayable" => Kind::NonPayable,
+        "indexed" => Kind::Indexed,
+        "calldata" => Kind::Calldata,
+        "memory" => Kind::Memory,
+        "storage" => Kind::Storage,
+        "FREE" => Kind::FreeStoragePointer,
+        "=" => Kind::Assign,
+        "(" => Kind::OpenParen,
+        ")" => Kind::CloseParen,
+        "{" => Kind::OpenBrace,
+        "}" => Kind::CloseBrace,
+        "[" => Kind::OpenBracket,
+        "]" => Kind::CloseBracket,
+        "<" => Kind::LeftAngle,
+        ">" => Kind::RightAngle,
+        "," => Kind::Comma,
+        ":" => Kind::Colon,
+        _ => return None,
+    })
+}
+
+/// Numbers that look like chance and are the same in every run (xorshift).
+pub struct Chance(u64);
+
+impl Chance {
+    pub fn new(seed: u64) -> Chance {
+        Chance(seed | 1)
+    }
+
+    pub fn number(&mut self) -> u64 {
+        self.0 ^= self.0 << 13;
+        self.0 ^= self.0 >> 7;
+        self.0 ^= self.0 << 17;
+        self.0
+    }
+
+    pub fn word(&mut self) -> u32 {
+        (self.number() >> 32) as u32
+    }
+
+    /// A number below a bound that is not 0.
+    pub fn below(&mut self, bound: usize) -> usize {
+        (self.number() >> 11) as usize % bound
+    }
+}

@@ -1,0 +1,274 @@
+//! The order and the lengths of the archive's arguments. Every list has a length and a fill word of its own, each refusal that is
+//! about lent things is provoked through one list alone, and guard words show that nothing is written outside.
+
+mod common;
+
+use common::Source;
+use simmerotter::raw;
+
+const GUARD: u32 = 0xdead_beef;
+const GUARDS: usize = 64;
+const FILLS: [u32; 4] = [0x1111_1111, 0x2222_2222, 0x3333_3333, 0x4444_4444];
+
+/// A lent list between guard words.
+struct Guarded {
+    words: Vec<u32>,
+    fill: u32,
+}
+
+impl Guarded {
+    fn new(length: usize, fill: u32) -> Guarded {
+        let mut words = vec![GUARD; length + 2 * GUARDS];
+        words[GUARDS..GUARDS + length].fill(fill);
+        Guarded { words, fill }
+    }
+
+    fn lent(&mut self) -> &mut [u32] {
+        let end = self.words.len() - GUARDS;
+        &mut self.words[GUARDS..end]
+    }
+
+    fn inside(&self) -> &[u32] {
+        &self.words[GUARDS..self.words.len() - GUARDS]
+    }
+
+    fn guards_stand(&self) -> bool {
+        let (before, rest) = self.words.split_at(GUARDS);
+        let after = &rest[rest.len() - GUARDS..];
+        before.iter().chain(after).all(|word| *word == GUARD)
+    }
+
+    fn is_untouched(&self) -> bool {
+        self.inside().iter().all(|word| *word == self.fill)
+    }
+
+    fn is_zero(&self) -> bool {
+        self.inside().iter().all(|word| *word == 0)
+    }
+}
+
+/// The four lent lists of a call and its answer.
+struct Call {
+    answer: [u64; 5],
+    kept: Guarded,
+    definitions: Guarded,
+    statements: Guarded,
+    arguments: Guarded,
+}
+
+impl Call {
+    fn new(lengths: [usize; 4]) -> Call {
+        let [kept, definitions, statements, arguments] = lengths;
+        Call {
+            answer: [99; 5],
+            kept: Guarded::new(kept, FILLS[0]),
+            definitions: Guarded::new(definitions, FILLS[1]),
+            statements: Guarded::new(statements, FILLS[2]),
+            arguments: Guarded::new(arguments, FILLS[3]),
+        }
+    }
+
+    fn file(text: &[u8], tokens: &[u32], lengths: [usize; 4]) -> Call {
+        let mut call = Call::new(lengths);
+        call.answer = raw::read_file(
+            text,
+            tokens,
+            call.kept.lent(),
+            call.definitions.lent(),
+            call.statements.lent(),
+            call.arguments.lent(),
+        );
+        call.checked()
+    }
+
+    fn body(text: &[u8], tokens: &[u32], start: usize, lengths: [usize; 4]) -> Call {
+        let mut call = Call::new(lengths);
+        call.answer = raw::read_body(text, tokens, start, call.kept.lent(), call.statements.lent(), call.arguments.lent());
+        assert!(call.definitions.is_untouched());
+        call.checked()
+    }
+
+    fn checked(self) -> Call {
+        assert!(self.kept.guards_stand() && self.definitions.guards_stand());
+        assert!(self.statements.guards_stand() && self.arguments.guards_stand());
+        self
+    }
+
+    /// After 30, 31 and 35 nothing lent has changed.
+    fn assert_untouched(&self) {
+        assert!(self.kept.is_untouched() && self.definitions.is_untouched());
+        assert!(self.statements.is_untouched() && self.arguments.is_untouched());
+    }
+
+    /// After another refusal the kept list is written and the tables are zero, a part of a record at the end too.
+    fn assert_cleared(&self, kept: usize) {
+        assert_eq!(self.kept.inside()[..kept], KEPT[..kept]);
+        assert!(self.kept.inside()[kept..].iter().all(|word| *word == FILLS[0]));
+        assert!(self.statements.is_zero() && self.arguments.is_zero());
+    }
+}
+
+/// Three definitions, four statements, five arguments; 37 kept tokens, so that no two needs are the same.
+fn source() -> Source {
+    Source::of_lines(&[
+        "#define function f ( %uint256 a , %bool b ) view returns ( %bool )",
+        "#define constant C = 0x01",
+        "#define macro M ( ) = { op60 0xff F ( a 0x02 ) go }",
+    ])
+}
+
+/// `Source::line` puts white space behind each token, so place p is token 2p.
+const KEPT: [u32; KEPT_COUNT] = even_numbers();
+const KEPT_COUNT: usize = 37;
+
+const fn even_numbers() -> [u32; KEPT_COUNT] {
+    let mut numbers = [0; KEPT_COUNT];
+    let mut place = 1;
+    while place < KEPT_COUNT {
+        numbers[place] = numbers[place - 1] + 2;
+        place += 1;
+    }
+    numbers
+}
+
+const EXACT: [usize; 4] = [KEPT_COUNT, 3 * 12, 4 * 8, 5 * 7];
+const BODY_START: usize = 26;
+const BODY_EXACT: [usize; 4] = [KEPT_COUNT, 17, 4 * 8, 2 * 7];
+
+#[rustfmt::skip]
+const DEFINITIONS: [u32; 36] = [
+    2, 2, 0, 15, 0, 2, 2, 1, 0, 0, 1, 0,
+    4, 17, 15, 20, 3, 0, 3, 0, 0, 0, 1, 19,
+    6, 22, 20, 36, 3, 0, 3, 0, 0, 4, 0, 0,
+];
+
+#[rustfmt::skip]
+const STATEMENTS: [u32; 32] = [
+    2, 27, 28, 1, 0, 3, 0, 27,
+    1, 28, 29, 2, 0, 3, 0, 28,
+    4, 29, 34, 3, 0, 3, 2, 29,
+    3, 34, 35, 4, 0, 5, 0, 34,
+];
+
+const NONE: u32 = simmerotter::NONE;
+
+#[rustfmt::skip]
+const ARGUMENTS: [u32; 35] = [
+    1, 4, 5, 0, 0, 4, 6,
+    1, 7, 8, 0, 0, 7, 9,
+    1, 13, NONE, 0, 0, 13, 14,
+    5, NONE, 31, 0, 0, 31, 32,
+    4, NONE, 32, 0, 0, 32, 33,
+];
+
+/// The lengths with one list's changed.
+fn with(mut lengths: [usize; 4], list: usize, length: usize) -> [usize; 4] {
+    lengths[list] = length;
+    lengths
+}
+
+fn assert_starts_and_ends(list: &Guarded, records: &[u32], rest: u32) {
+    assert_eq!(&list.inside()[..records.len()], records);
+    assert!(list.inside()[records.len()..].iter().all(|word| *word == rest));
+}
+
+#[test]
+fn a_file_is_written_into_its_own_lists() {
+    let source = source();
+    for extra in [[0; 4], [1, 2, 3, 4], [9, 40, 20, 30]] {
+        let lengths = [EXACT[0] + extra[0], EXACT[1] + extra[1], EXACT[2] + extra[2], EXACT[3] + extra[3]];
+        let call = Call::file(&source.text, &source.tokens, lengths);
+        assert_eq!(call.answer, [0, 36, 3, 4, 5]);
+        assert_starts_and_ends(&call.kept, &KEPT, FILLS[0]);
+        assert_starts_and_ends(&call.definitions, &DEFINITIONS, 0);
+        assert_starts_and_ends(&call.statements, &STATEMENTS, 0);
+        assert_starts_and_ends(&call.arguments, &ARGUMENTS, 0);
+    }
+}
+
+#[test]
+fn a_body_is_written_into_its_own_lists() {
+    let source = source();
+    for extra in [[0; 3], [1, 2, 3], [9, 20, 30]] {
+        let lengths = [BODY_EXACT[0] + extra[0], BODY_EXACT[1], BODY_EXACT[2] + extra[1], BODY_EXACT[3] + extra[2]];
+        let call = Call::body(&source.text, &source.tokens, BODY_START, lengths);
+        assert_eq!(call.answer, [0, 36, 4, 2, u64::from(NONE)]);
+        assert_starts_and_ends(&call.kept, &KEPT, FILLS[0]);
+        // As in the file, but for three arguments that come before the macro's.
+        let mut statements = STATEMENTS;
+        statements.chunks_mut(8).for_each(|record| record[5] -= 3);
+        assert_starts_and_ends(&call.statements, &statements, 0);
+        assert_starts_and_ends(&call.arguments, &ARGUMENTS[3 * 7..], 0);
+    }
+}
+
+#[test]
+fn a_file_names_the_list_that_is_too_short() {
+    let source = source();
+    for missing in [1, EXACT[0]] {
+        let call = Call::file(&source.text, &source.tokens, with(EXACT, 0, EXACT[0] - missing));
+        assert_eq!(call.answer, [35, 37, 0, 0, 0]);
+        call.assert_untouched();
+    }
+    for (list, number, need) in [(1, 32, 3), (2, 33, 4), (3, 34, 5)] {
+        for missing in [1, EXACT[list]] {
+            let call = Call::file(&source.text, &source.tokens, with(EXACT, list, EXACT[list] - missing));
+            assert_eq!(call.answer, [number, need, 0, 0, 0]);
+            call.assert_cleared(KEPT_COUNT);
+            assert!(call.definitions.is_zero());
+        }
+    }
+}
+
+#[test]
+fn a_body_names_the_list_that_is_too_short() {
+    let source = source();
+    let read = |lengths| Call::body(&source.text, &source.tokens, BODY_START, lengths);
+    let call = read(with(BODY_EXACT, 0, BODY_EXACT[0] - 1));
+    assert_eq!(call.answer, [35, 37, 0, 0, 0]);
+    call.assert_untouched();
+    for (list, number, need) in [(2, 33, 4), (3, 34, 2)] {
+        let call = read(with(BODY_EXACT, list, BODY_EXACT[list] - 1));
+        assert_eq!(call.answer, [number, need, 0, 0, 0]);
+        call.assert_cleared(KEPT_COUNT);
+    }
+}
+
+#[test]
+fn text_and_token_list_are_told_apart_and_measured() {
+    let source = source();
+    let (text, tokens) = (&source.text[..], &source.tokens[..]);
+    let last = (tokens.len() / 4 - 1) as u64;
+    let short_text = &text[..text.len() - 1];
+    let short_tokens = &tokens[..tokens.len() - 1];
+    let no_eof = &tokens[..tokens.len() - 4];
+    for (text, tokens, cursor) in [
+        // The last white space then ends behind the text.
+        (short_text, tokens, last - 1),
+        (text, short_tokens, 0),
+        (text, no_eof, last - 1),
+        (text, &tokens[..0], 0),
+    ] {
+        let file = Call::file(text, tokens, EXACT);
+        let body = Call::body(text, tokens, BODY_START, BODY_EXACT);
+        for call in [file, body] {
+            assert_eq!(call.answer, [30, cursor, 0, 0, 0]);
+            call.assert_untouched();
+        }
+    }
+}
+
+#[test]
+fn the_start_arrives_whole() {
+    let source = source();
+    for start in [KEPT_COUNT, KEPT_COUNT + 1, 1 << 31, 1 << 32, (1 << 32) + BODY_START, usize::MAX] {
+        let call = Call::body(&source.text, &source.tokens, start, BODY_EXACT);
+        assert_eq!(call.answer, [31, start as u64, 0, 0, 0]);
+        call.assert_untouched();
+    }
+    for start in (0..KEPT_COUNT).filter(|start| *start != BODY_START) {
+        let call = Call::body(&source.text, &source.tokens, start, BODY_EXACT);
+        assert_eq!(call.answer, [1, start as u64, 0, 0, 0]);
+        call.assert_cleared(KEPT_COUNT);
+    }
+}

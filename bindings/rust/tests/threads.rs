@@ -1,0 +1,88 @@
+//! Calls share nothing: threads that call at once get the answers that one thread gets, each with lists of its own.
+
+mod common;
+
+use common::{vectors, Lists, Source, Vector};
+use simmerotter::Room;
+use std::sync::{Arc, Barrier};
+use std::thread;
+
+/// What a call left.
+type Left = ([u64; 5], Lists);
+
+/// Every thread reads the whole list so often.
+const ROUNDS: usize = 3;
+
+#[test]
+fn two_threads_answer_like_one() {
+    assert_threads_answer_like_one(2);
+}
+
+#[test]
+fn four_threads_answer_like_one() {
+    assert_threads_answer_like_one(4);
+}
+
+fn assert_threads_answer_like_one(count: usize) {
+    let vectors = Arc::new(vectors());
+    let alone: Arc<Vec<Left>> = Arc::new(vectors.iter().map(Vector::call).collect());
+    let start = Arc::new(Barrier::new(count));
+    let threads: Vec<_> = (0..count)
+        .map(|thread| {
+            let (vectors, alone, start) = (vectors.clone(), alone.clone(), start.clone());
+            thread::spawn(move || {
+                start.wait();
+                compare(&vectors, &alone, thread * vectors.len() / count)
+            })
+        })
+        .collect();
+    let compared: usize = threads.into_iter().map(|thread| thread.join().expect("a thread without a difference")).sum();
+    println!("{} threads: {} calls as one thread makes them", count, compared);
+    assert!(compared >= 3_000 * ROUNDS * count);
+}
+
+/// Starts at another vector in each thread, so that files and bodies of all sorts are read at the same time.
+fn compare(vectors: &[Vector], alone: &[Left], offset: usize) -> usize {
+    let order = (0..ROUNDS * vectors.len()).map(|index| (offset + index) % vectors.len());
+    order
+        .map(|index| {
+            assert_eq!(vectors[index].call(), alone[index], "vector {}", vectors[index].line);
+        })
+        .count()
+}
+
+/// More than 1,536 kept tokens: the archive then takes its large table of names.
+fn many_macros() -> Source {
+    let mut source = Source::new();
+    (0..2_000).for_each(|number| source.line(&format!("#define macro M{} ( ) = {{ }}", number)));
+    source.end().without_space()
+}
+
+#[test]
+fn large_files_are_read_at_once() {
+    let source = Arc::new(many_macros());
+    let threads: Vec<_> = (0..4)
+        .map(|_| {
+            let source = source.clone();
+            thread::spawn(move || names(&source))
+        })
+        .collect();
+    for thread in threads {
+        assert_eq!(thread.join().expect("a thread that has read its file"), names(&source));
+    }
+    assert_eq!(names(&source).len(), 2_000);
+}
+
+/// The documents speak of about 400 KB: a thread with half a megabyte has to do, or it would end by a fault.
+#[test]
+fn half_a_megabyte_of_stack_suffices() {
+    let source = many_macros();
+    let thread = thread::Builder::new().stack_size(512 * 1024).spawn(move || names(&source).len());
+    assert_eq!(thread.expect("a thread").join().expect("its answer"), 2_000);
+}
+
+fn names(source: &Source) -> Vec<Vec<u8>> {
+    let mut room = Room::new();
+    let file = room.read_file(&source.text, &source.tokens).expect("a file that follows the rules");
+    file.definitions().map(|definition| definition.name().to_vec()).collect()
+}

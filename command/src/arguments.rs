@@ -1,0 +1,169 @@
+//! The command line.
+
+use crate::place::clean;
+use std::ffi::OsString;
+use std::fmt;
+
+/// What `--help` prints.
+pub const HELP: &str = "\
+simmerotter reads a Huff text and its token list and shows what the proved parser found in them.
+
+Usage:
+  simmerotter TEXT WORDS               reads a whole file and prints what it found, for a person
+  simmerotter --body PLACE TEXT WORDS  reads one body, whose { stands at PLACE
+  simmerotter --records [...] TEXT WORDS
+                                       prints a record a line, for programs; --places adds a line a place
+  simmerotter --help                   prints this
+
+  TEXT   the Huff text; at most 1048576 bytes
+  WORDS  its token list: little-endian 32-bit words, four a token (kind, start, end, extra); at most 65536
+         tokens. simmerotter cuts no tokens itself: the list comes from the compiler's lexer
+  PLACE  counts the tokens that are neither white space nor comment, from 0
+
+Status:
+  0 accepted, 1 refused, 2 wrong usage or a file that can't be read
+
+Example:
+  simmerotter examples/settlement.huff examples/settlement.words
+
+docs/COMMAND.md explains both forms and every message.
+";
+
+const HINT: &str = "simmerotter --help explains the usage.\n";
+
+/// Which of the library's two entries is called.
+#[derive(Clone, Copy, Debug, PartialEq, Eq)]
+pub enum Entry {
+    File,
+    Body(usize),
+}
+
+/// Whom the output is for.
+#[derive(Clone, Copy, Debug, PartialEq, Eq)]
+pub enum Form {
+    Person,
+    Records { places: bool },
+}
+
+/// One call of the library.
+#[derive(Debug, PartialEq, Eq)]
+pub struct Job {
+    pub entry: Entry,
+    pub form: Form,
+    pub text: OsString,
+    pub words: OsString,
+}
+
+#[derive(Debug, PartialEq, Eq)]
+pub enum Request {
+    Help,
+    Read(Job),
+}
+
+/// Why the command line says nothing that can be done.
+#[derive(Debug, PartialEq, Eq)]
+pub enum Wrong {
+    Nothing,
+    UnknownOption(OsString),
+    Twice(&'static str),
+    NoPlace(Option<OsString>),
+    PlacesAlone,
+    Paths(usize),
+}
+
+impl fmt::Display for Wrong {
+    fn fmt(&self, f: &mut fmt::Formatter<'_>) -> fmt::Result {
+        match self {
+            Wrong::Nothing => return f.write_str(HELP),
+            Wrong::UnknownOption(option) => writeln!(f, "simmerotter: unknown option {}", shown(option)),
+            Wrong::Twice(option) => writeln!(f, "simmerotter: {} is given twice", option),
+            Wrong::NoPlace(None) => writeln!(f, "simmerotter: --body needs a place"),
+            Wrong::NoPlace(Some(found)) => {
+                writeln!(f, "simmerotter: --body needs a place from 0 to {}, not {}", u32::MAX, shown(found))
+            }
+            Wrong::PlacesAlone => writeln!(f, "simmerotter: --places goes with --records"),
+            Wrong::Paths(count) => writeln!(f, "simmerotter: two paths are needed, TEXT and WORDS; {} given", count),
+        }?;
+        f.write_str(HINT)
+    }
+}
+
+/// A word of the command line as it may be printed.
+pub fn shown(word: &std::ffi::OsStr) -> String {
+    clean(word.to_string_lossy().as_bytes())
+}
+
+/// Options as they are found; each may stand anywhere and once.
+#[derive(Default)]
+struct Found {
+    help: bool,
+    records: bool,
+    places: bool,
+    body: Option<usize>,
+    paths: Vec<OsString>,
+}
+
+/// Reads the words after the command's name.
+pub fn parse(words: impl Iterator<Item = OsString>) -> Result<Request, Wrong> {
+    let mut words = words.peekable();
+    if words.peek().is_none() {
+        return Err(Wrong::Nothing);
+    }
+    let mut found = Found::default();
+    while let Some(word) = words.next() {
+        match word.to_str() {
+            Some("--help") => found.help = true,
+            Some("--records") => once(&mut found.records, "--records")?,
+            Some("--places") => once(&mut found.places, "--places")?,
+            Some("--body") if found.body.is_some() => return Err(Wrong::Twice("--body")),
+            Some("--body") => found.body = Some(place(words.next())?),
+            Some("--") => found.paths.extend(words.by_ref()),
+            _ if is_option(&word) => return Err(Wrong::UnknownOption(word)),
+            _ => found.paths.push(word),
+        }
+    }
+    found.request()
+}
+
+/// A lone `-` is a path like another.
+fn is_option(word: &std::ffi::OsStr) -> bool {
+    word.len() > 1 && word.to_string_lossy().starts_with('-')
+}
+
+fn once(flag: &mut bool, option: &'static str) -> Result<(), Wrong> {
+    if *flag {
+        return Err(Wrong::Twice(option));
+    }
+    *flag = true;
+    Ok(())
+}
+
+/// Decimal digits alone: `+1` is no place.
+fn place(word: Option<OsString>) -> Result<usize, Wrong> {
+    let number = word
+        .as_ref()
+        .and_then(|word| word.to_str())
+        .filter(|digits| digits.bytes().all(|byte| byte.is_ascii_digit()))
+        .and_then(|digits| digits.parse::<u32>().ok())
+        .and_then(|number| usize::try_from(number).ok());
+    number.ok_or(Wrong::NoPlace(word))
+}
+
+impl Found {
+    fn request(self) -> Result<Request, Wrong> {
+        if self.help {
+            return Ok(Request::Help);
+        }
+        if self.places && !self.records {
+            return Err(Wrong::PlacesAlone);
+        }
+        let form = if self.records { Form::Records { places: self.places } } else { Form::Person };
+        let entry = self.body.map_or(Entry::File, Entry::Body);
+        let count = self.paths.len();
+        let mut paths = self.paths.into_iter();
+        match (paths.next(), paths.next(), paths.next()) {
+            (Some(text), Some(words), None) => Ok(Request::Read(Job { entry, form, text, words })),
+            _ => Err(Wrong::Paths(count)),
+        }
+    }
+}

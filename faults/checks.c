@@ -1,0 +1,417 @@
+#include "checks.h"
+
+#include <string.h>
+
+#include "kinds.h"
+#include "memcheck.h"
+
+/* The door. */
+
+static bool is_hex(uint8_t byte)
+{
+    return (byte >= '0' && byte <= '9') || (byte >= 'a' && byte <= 'f') || (byte >= 'A' && byte <= 'F');
+}
+
+/* 0x and 1 to 64 hex digits. */
+static bool is_literal(const uint8_t *own, size_t length)
+{
+    if (length < 3 || length > 66 || own[0] != '0' || own[1] != 'x')
+        return false;
+    for (size_t i = 2; i < length; i++)
+        if (!is_hex(own[i]))
+            return false;
+    return true;
+}
+
+static bool extra_is_good(uint32_t kind, uint32_t extra)
+{
+    if (kind == OPCODE)
+        return extra <= 255;
+    return kind == NUM || extra == 0;
+}
+
+static bool own_is_good(const uint8_t *text, uint32_t kind, uint32_t start, uint32_t end)
+{
+    if (kind == IDENT || kind == LABEL)
+        return start < end;
+    return kind != LITERAL || is_literal(text + start, end - start);
+}
+
+static bool token_is_good(const struct call *c, const uint32_t *word, uint32_t previous_end, bool last)
+{
+    uint32_t kind = word[0], start = word[1], end = word[2];
+    if (kind >= KINDS || (kind == EOF_KIND) != last)
+        return false;
+    if (start > end || end > c->text_len || start < previous_end)
+        return false;
+    return own_is_good(c->text, kind, start, end) && extra_is_good(kind, word[3]);
+}
+
+/* The first bad token's number; how many there are, if none is bad. */
+static size_t first_bad(const struct call *c, size_t tokens)
+{
+    uint32_t previous_end = 0;
+    for (size_t i = 0; i < tokens; i++) {
+        if (!token_is_good(c, c->tokens + TOKEN * i, previous_end, i + 1 == tokens))
+            return i;
+        previous_end = c->tokens[TOKEN * i + 2];
+    }
+    return tokens;
+}
+
+static bool is_kept(const struct call *c, size_t token)
+{
+    uint32_t kind = c->tokens[TOKEN * token];
+    return kind != WHITESPACE && kind != COMMENT;
+}
+
+static size_t count_kept(const struct call *c, size_t tokens)
+{
+    size_t count = 0;
+    for (size_t i = 0; i < tokens; i++)
+        count += is_kept(c, i);
+    return count;
+}
+
+struct door door_of(const struct call *c)
+{
+    size_t tokens = c->tokens_len / TOKEN;
+    if (c->text_len > MOST_TEXT || c->tokens_len % TOKEN != 0 || tokens == 0 || tokens > MOST_TOKENS)
+        return (struct door){30, 0, 0};
+    size_t bad = first_bad(c, tokens);
+    if (bad != tokens)
+        return (struct door){30, bad, 0};
+    size_t kept = count_kept(c, tokens);
+    if (c->sizes.kept < kept)
+        return (struct door){35, kept, kept};
+    if (c->body && c->start >= kept)
+        return (struct door){31, c->start, kept};
+    return (struct door){0, 0, kept};
+}
+
+bool leaves_all(uint64_t number)
+{
+    return number == 30 || number == 31 || number == 35;
+}
+
+/* The numbers of the table that this entry can give. 2, 3, 9 and 11 belong to things outside bodies. */
+static bool number_is_known(bool body, uint64_t number)
+{
+    if (body)
+        return number <= 1 || (number >= 4 && number <= 8) || number == 10 || number == 12 || number == 13 ||
+               number == 30 || number == 31 || (number >= 33 && number <= 35);
+    return number <= 13 || number == 20 || number == 21 || number == 30 || (number >= 32 && number <= 35);
+}
+
+/* Words left alone. */
+
+/* Under memcheck a word that was marked undefined and then written, even with its old value, is defined. */
+static bool still_undefined(const uint32_t *from, size_t bytes)
+{
+    uint8_t bits[512];
+    const uint8_t *at = (const uint8_t *)from;
+    while (bytes > 0) {
+        size_t some = bytes < sizeof bits ? bytes : sizeof bits;
+        if (VALGRIND_GET_VBITS(at, bits, some) != 1)
+            return true;
+        for (size_t i = 0; i < some; i++)
+            if (bits[i] != 0xff)
+                return false;
+        at += some;
+        bytes -= some;
+    }
+    return true;
+}
+
+static bool untouched(const struct call *c, const uint32_t *list, size_t from, size_t length)
+{
+    size_t bytes = (length - from) * sizeof *list;
+    if (c->undefined) {
+        if (!still_undefined(list + from, bytes))
+            return false;
+        VALGRIND_MAKE_MEM_DEFINED(list + from, bytes);
+    }
+    for (size_t i = from; i < length; i++)
+        if (list[i] != c->stain + (uint32_t)i)
+            return false;
+    return true;
+}
+
+static bool all_untouched(const struct call *c)
+{
+    return untouched(c, c->kept, 0, c->sizes.kept) && untouched(c, c->definitions, 0, c->sizes.definitions) &&
+           untouched(c, c->statements, 0, c->sizes.statements) && untouched(c, c->arguments, 0, c->sizes.arguments);
+}
+
+/* Words written. */
+
+static bool is_defined(const void *at, size_t bytes)
+{
+    (void)at;
+    return bytes == 0 || VALGRIND_CHECK_MEM_IS_DEFINED(at, bytes) == 0;
+}
+
+static bool tables_are_defined(const struct call *c)
+{
+    return is_defined(c->definitions, c->sizes.definitions * 4) && is_defined(c->statements, c->sizes.statements * 4) &&
+           is_defined(c->arguments, c->sizes.arguments * 4);
+}
+
+static bool is_zero(const uint32_t *list, size_t from, size_t length)
+{
+    for (size_t i = from; i < length; i++)
+        if (list[i] != 0)
+            return false;
+    return true;
+}
+
+static bool tables_are_zero(const struct call *c)
+{
+    return is_zero(c->definitions, 0, c->sizes.definitions) && is_zero(c->statements, 0, c->sizes.statements) &&
+           is_zero(c->arguments, 0, c->sizes.arguments);
+}
+
+static bool kept_is_right(const struct call *c, size_t kept_count)
+{
+    size_t place = 0;
+    if (!is_defined(c->kept, kept_count * 4))
+        return false;
+    for (size_t i = 0; i < c->tokens_len / TOKEN; i++)
+        if (is_kept(c, i) && c->kept[place++] != i)
+            return false;
+    return untouched(c, c->kept, kept_count, c->sizes.kept);
+}
+
+/* Records. */
+
+struct counts {
+    uint64_t definitions, statements, arguments;
+};
+
+static struct counts counts_of(const struct call *c)
+{
+    const uint64_t *a = c->answer;
+    return c->body ? (struct counts){0, a[2], a[3]} : (struct counts){a[2], a[3], a[4]};
+}
+
+static bool is_range(const uint32_t *first_end, size_t kept_count)
+{
+    return first_end[0] <= first_end[1] && first_end[1] <= kept_count;
+}
+
+/* Some records, from a first one on, of those there are. */
+static bool is_run(uint32_t first, uint32_t run, uint64_t count)
+{
+    return (uint64_t)first + run <= count;
+}
+
+static uint32_t kind_at(const struct call *c, size_t place)
+{
+    return c->tokens[TOKEN * c->kept[place]];
+}
+
+static bool has_kind(const struct call *c, uint32_t place, size_t kept_count, uint32_t kind)
+{
+    return place < kept_count && kind_at(c, place) == kind;
+}
+
+static bool definition_is_good(const struct call *c, const uint32_t *d, size_t kept_count, struct counts n)
+{
+    if (d[0] < 1 || d[0] > 11 || !is_range(d + 2, kept_count))
+        return false;
+    return has_kind(c, d[1], kept_count, d[0] == 1 ? STR : IDENT) &&
+           has_kind(c, d[2], kept_count, d[0] == 1 ? INCLUDE : DEFINE) && is_run(d[4], d[5], n.arguments) &&
+           is_run(d[6], d[7], n.arguments) && is_run(d[8], d[9], n.statements);
+}
+
+static bool statement_is_good(const struct call *c, const uint32_t *s, size_t kept_count, struct counts n)
+{
+    static const uint8_t NAMED[] = {0, LITERAL, OPCODE, IDENT, IDENT, LABEL, IDENT, IDENT, BUILTIN};
+    if (s[0] < 1 || s[0] > (c->body ? 8 : 9) || !is_range(s + 1, kept_count))
+        return false;
+    if (s[0] != 9 && !has_kind(c, s[7], kept_count, NAMED[s[0]]))
+        return false;
+    return (s[0] == 5 || s[4] == 0) && is_run(s[3], s[4], n.statements) && is_run(s[5], s[6], n.arguments);
+}
+
+static bool is_place_or_none(uint32_t place, size_t kept_count)
+{
+    return place < kept_count || place == NONE;
+}
+
+static bool argument_is_good(const uint32_t *a, size_t kept_count)
+{
+    if (a[0] < 1 || a[0] > 6 || !is_range(a + 5, kept_count) || a[3] > 1 || a[4] > 3)
+        return false;
+    if (a[0] > 1 && (a[3] != 0 || a[4] != 0 || a[1] != NONE || a[2] == NONE))
+        return false;
+    return is_place_or_none(a[1], kept_count) && is_place_or_none(a[2], kept_count);
+}
+
+static bool counts_fit(const struct call *c, struct counts n)
+{
+    return n.definitions <= c->sizes.definitions / DEFINITION && n.statements <= c->sizes.statements / STATEMENT &&
+           n.arguments <= c->sizes.arguments / ARGUMENT;
+}
+
+static bool rest_is_zero(const struct call *c, struct counts n)
+{
+    return is_zero(c->definitions, n.definitions * DEFINITION, c->sizes.definitions) &&
+           is_zero(c->statements, n.statements * STATEMENT, c->sizes.statements) &&
+           is_zero(c->arguments, n.arguments * ARGUMENT, c->sizes.arguments);
+}
+
+static bool records_are_good(const struct call *c, size_t kept_count, struct counts n)
+{
+    for (uint64_t i = 0; i < n.definitions; i++)
+        if (!definition_is_good(c, c->definitions + DEFINITION * i, kept_count, n))
+            return false;
+    for (uint64_t i = 0; i < n.statements; i++)
+        if (!statement_is_good(c, c->statements + STATEMENT * i, kept_count, n))
+            return false;
+    for (uint64_t i = 0; i < n.arguments; i++)
+        if (!argument_is_good(c->arguments + ARGUMENT * i, kept_count))
+            return false;
+    return true;
+}
+
+/* The plain length, from the records. */
+
+static uint32_t pushed_bytes(const struct call *c, const uint32_t *s)
+{
+    uint32_t byte = c->tokens[TOKEN * c->kept[s[7]] + 3];
+    return s[0] == 2 && byte >= 0x60 && byte <= 0x7f ? byte - 0x5f : 0;
+}
+
+static uint32_t significant_bytes(const struct call *c, uint32_t place)
+{
+    const uint32_t *word = c->tokens + TOKEN * c->kept[place];
+    uint32_t at = word[1] + 2;
+    while (at < word[2] && c->text[at] == '0')
+        at++;
+    return at == word[2] ? 1 : (word[2] - at + 1) / 2;
+}
+
+static uint64_t plain_length(const struct call *c, uint64_t statements)
+{
+    uint64_t length = 0;
+    bool in_label = false;
+    for (uint64_t i = 0; i < statements; i++) {
+        const uint32_t *s = c->statements + STATEMENT * i;
+        uint32_t pushed = i > 0 && !in_label ? pushed_bytes(c, s - STATEMENT) : 0;
+        switch (s[0]) {
+        case 1: length += pushed != 0 ? pushed : 1 + significant_bytes(c, s[7]); break;
+        case 2: length += 1; break;
+        case 3: length += 3; break;
+        case 5: length += 1; in_label = true; break;
+        default: return NONE;
+        }
+    }
+    return length;
+}
+
+/* Answers. */
+
+static const char *broken_acceptance(const struct call *c, size_t kept_count)
+{
+    struct counts n = counts_of(c);
+    uint64_t cursor = c->answer[1];
+    if (!counts_fit(c, n))
+        return "the counts of an accepted call fit the tables";
+    if (!rest_is_zero(c, n))
+        return "the words beyond the records are zero";
+    if (!records_are_good(c, kept_count, n))
+        return "a record's numbers, ranges and places are ones there are";
+    if (!c->body && cursor != kept_count - 1)
+        return "an accepted file's cursor is the place of Eof";
+    if (c->body && (cursor <= c->start || cursor >= kept_count || kind_at(c, cursor - 1) != CLOSE_BRACE))
+        return "an accepted body's cursor is one past its brace";
+    if (c->body && c->answer[4] != plain_length(c, n.statements))
+        return "the plain length is that of the statements";
+    return NULL;
+}
+
+/* 32 to 34: more records are needed than the table has. */
+static bool is_too_small(const struct call *c)
+{
+    switch (c->answer[0]) {
+    case 32: return c->answer[1] > c->sizes.definitions / DEFINITION;
+    case 33: return c->answer[1] > c->sizes.statements / STATEMENT;
+    default: return c->answer[1] > c->sizes.arguments / ARGUMENT;
+    }
+}
+
+static const char *broken_refusal(const struct call *c, size_t kept_count)
+{
+    const uint64_t *a = c->answer;
+    if (a[2] != 0 || a[3] != 0 || a[4] != 0)
+        return "the counts and the length of a refusal are 0";
+    if (!tables_are_zero(c))
+        return "the tables after a refusal are zero";
+    if (a[0] >= 32)
+        return is_too_small(c) ? NULL : "a table called too small has fewer records than needed";
+    if (a[1] >= kept_count)
+        return "the cursor of 1 to 21 is the place of a kept token";
+    if (a[0] == 20 && kind_at(c, a[1]) != IDENT)
+        return "the cursor of 20 is a name";
+    if (a[0] == 21 && kind_at(c, a[1]) != POUND)
+        return "the cursor of 21 is Pound";
+    return NULL;
+}
+
+static bool inputs_kept(const struct call *c, const struct maker *m)
+{
+    return (m->text_len == 0 || memcmp(c->text, m->text, m->text_len) == 0) &&
+           (m->words_len == 0 || memcmp(c->tokens, m->words, m->words_len * sizeof *m->words) == 0);
+}
+
+static const char *broken_at_door(const struct call *c, struct door door)
+{
+    const uint64_t *a = c->answer;
+    if (a[0] != door.number || a[1] != door.cursor || a[2] != 0 || a[3] != 0 || a[4] != 0)
+        return "30, 35 and 31 are given in this order, with their cursors";
+    return all_untouched(c) ? NULL : "after 30, 31 and 35 nothing lent has changed";
+}
+
+const char *broken_rule(const struct call *c, const struct maker *m)
+{
+    struct door door = door_of(c);
+    uint64_t number;
+    if (!is_defined(c->answer, 5 * sizeof *c->answer))
+        return "all five numbers of the answer are written";
+    number = c->answer[0];
+    if (!number_is_known(c->body, number))
+        return "the number is one of the table, and of this entry";
+    if (!inputs_kept(c, m))
+        return "text and tokens are only read";
+    if (door.number != 0)
+        return broken_at_door(c, door);
+    if (leaves_all(number))
+        return "30, 31 and 35 are given only where their rules say so";
+    if (!kept_is_right(c, door.kept_count))
+        return "the kept list has the numbers of the kept tokens, its words beyond are untouched";
+    if (!tables_are_defined(c))
+        return "every word of the tables is written";
+    return number == 0 ? broken_acceptance(c, door.kept_count) : broken_refusal(c, door.kept_count);
+}
+
+/* Digests: FNV-1a by words. */
+
+static uint64_t mixed(uint64_t sum, const void *at, size_t bytes)
+{
+    const uint8_t *byte = at;
+    for (size_t i = 0; i < bytes; i++)
+        sum = (sum ^ byte[i]) * 0x100000001b3u;
+    return sum;
+}
+
+uint64_t digest(const struct call *c)
+{
+    uint64_t sum = mixed(0xcbf29ce484222325u, c->answer, 5 * sizeof *c->answer);
+    sum = mixed(sum, c->text, c->text_len);
+    sum = mixed(sum, c->tokens, c->tokens_len * 4);
+    sum = mixed(sum, c->kept, c->sizes.kept * 4);
+    sum = mixed(sum, c->definitions, c->sizes.definitions * 4);
+    sum = mixed(sum, c->statements, c->sizes.statements * 4);
+    return mixed(sum, c->arguments, c->sizes.arguments * 4);
+}

@@ -1,0 +1,100 @@
+/*
+ * Faults planted on purpose, to see that the search finds them. The linker puts these functions between the driver
+ * and the library (--wrap); SLIP in the environment says which fault is added after the true call.
+ */
+#include <sched.h>
+#include <stdlib.h>
+#include <string.h>
+
+#include "../bindings/c/simmerotter.h"
+#include "memcheck.h"
+
+void __real_simmerotter_read_file(const uint8_t *text, size_t text_len, const uint32_t *tokens, size_t tokens_len,
+                                  uint32_t *kept, size_t kept_len, uint32_t *definitions, size_t definitions_len,
+                                  uint32_t *statements, size_t statements_len, uint32_t *arguments,
+                                  size_t arguments_len, uint64_t answer[5]);
+void __real_simmerotter_read_body(const uint8_t *text, size_t text_len, const uint32_t *tokens, size_t tokens_len,
+                                  size_t start, uint32_t *kept, size_t kept_len, uint32_t *statements,
+                                  size_t statements_len, uint32_t *arguments, size_t arguments_len,
+                                  uint64_t answer[5]);
+void __wrap_simmerotter_read_file(const uint8_t *text, size_t text_len, const uint32_t *tokens, size_t tokens_len,
+                                  uint32_t *kept, size_t kept_len, uint32_t *definitions, size_t definitions_len,
+                                  uint32_t *statements, size_t statements_len, uint32_t *arguments,
+                                  size_t arguments_len, uint64_t answer[5]);
+void __wrap_simmerotter_read_body(const uint8_t *text, size_t text_len, const uint32_t *tokens, size_t tokens_len,
+                                  size_t start, uint32_t *kept, size_t kept_len, uint32_t *statements,
+                                  size_t statements_len, uint32_t *arguments, size_t arguments_len,
+                                  uint64_t answer[5]);
+
+/* Accesses that the compiler may not leave out. */
+static volatile uint32_t seen;
+
+static uint32_t calls;
+
+/* What a library with a buffer of its own would do: all threads answer through the same words. */
+static uint64_t shared[5];
+
+static void answer_through_shared(uint64_t *answer)
+{
+    memcpy(shared, answer, sizeof shared);
+    sched_yield();
+    memcpy(answer, shared, sizeof shared);
+}
+
+static void use(uint32_t word)
+{
+    if (word == 77)
+        seen = word;
+}
+
+static int passed_door(const uint64_t *answer)
+{
+    return answer[0] != 30 && answer[0] != 31 && answer[0] != 35;
+}
+
+static void slip(const uint8_t *text, size_t text_len, const uint32_t *tokens, size_t tokens_len, uint32_t *kept,
+                 size_t kept_len, uint32_t *table, size_t table_len, uint64_t *answer)
+{
+    const char *word = getenv("SLIP");
+    volatile uint8_t *text_bytes = (volatile uint8_t *)text;
+    switch (word == NULL ? 0 : atoi(word)) {
+    case 1: use(text_bytes[text_len]); break;
+    case 2: use(((const volatile uint32_t *)tokens)[-1]); break;
+    case 3: use(((const volatile uint32_t *)tokens)[tokens_len]); break;
+    case 4: kept[kept_len] = 1; break;
+    case 5: table[table_len] = 0; break;
+    case 6: ((volatile uint32_t *)table)[-1] = 0; break;
+    case 7: if (text_len > 0) text_bytes[0] ^= 1; break;
+    case 8: if (text_len > 0) text_bytes[0] = text_bytes[0]; break;
+    case 9: if (table_len > 0 && passed_door(answer)) table[table_len - 1] ^= 4; break;
+    case 10: if (table_len > 0) table[0] = 0; break;
+    case 11: if (table_len > 0) VALGRIND_MAKE_MEM_UNDEFINED(table + table_len - 1, 4); break;
+    case 12: if (kept_len > 0 && answer[0] == 30) VALGRIND_MAKE_MEM_DEFINED(kept, 4); break;
+    case 13: if (kept_len > 0 && passed_door(answer)) kept[0] = 1; break;
+    case 14: answer[0] = answer[0] == 4 ? 14 : answer[0]; break;
+    case 15: answer[1] += ++calls % 100 == 0; break;
+    case 16: answer[4] += answer[0] == 0; break;
+    case 17: answer_through_shared(answer); break;
+    default: break;
+    }
+}
+
+void __wrap_simmerotter_read_file(const uint8_t *text, size_t text_len, const uint32_t *tokens, size_t tokens_len,
+                                  uint32_t *kept, size_t kept_len, uint32_t *definitions, size_t definitions_len,
+                                  uint32_t *statements, size_t statements_len, uint32_t *arguments,
+                                  size_t arguments_len, uint64_t answer[5])
+{
+    __real_simmerotter_read_file(text, text_len, tokens, tokens_len, kept, kept_len, definitions, definitions_len,
+                                 statements, statements_len, arguments, arguments_len, answer);
+    slip(text, text_len, tokens, tokens_len, kept, kept_len, definitions, definitions_len, answer);
+}
+
+void __wrap_simmerotter_read_body(const uint8_t *text, size_t text_len, const uint32_t *tokens, size_t tokens_len,
+                                  size_t start, uint32_t *kept, size_t kept_len, uint32_t *statements,
+                                  size_t statements_len, uint32_t *arguments, size_t arguments_len,
+                                  uint64_t answer[5])
+{
+    __real_simmerotter_read_body(text, text_len, tokens, tokens_len, start, kept, kept_len, statements,
+                                 statements_len, arguments, arguments_len, answer);
+    slip(text, text_len, tokens, tokens_len, kept, kept_len, arguments, arguments_len, answer);
+}
