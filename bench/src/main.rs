@@ -5,7 +5,8 @@
 //!     bench --quick    fewer rounds: whether all of it runs, not figures
 //!
 //! What is timed: on one side a call of `simmerotter_read_file` with tables of exactly the need, which it zeroes itself; on the other `Parser::new(list, None)` and
-//! `parse()`, whose list was cloned before. Freeing is timed on neither. Beside them a call that makes its own room (`Room`), and a bare pass that adds up the token list's words.
+//! `parse()`, whose list was cloned before, once without and once with the freeing of the list and of what was read: the library has nothing to free. Beside them a call
+//! that makes its own room (`Room`), and a bare pass that adds up the token list's words.
 
 mod shapes;
 mod timing;
@@ -53,26 +54,31 @@ impl Tables {
     }
 }
 
-/// Nanoseconds a call: the library, the library with its own room, the Rust, a bare pass.
+/// Nanoseconds a call: the library, the library with its own room, the Rust without and with freeing, a bare pass; and the Rust's two times by the library's.
 struct Times {
     tokens: usize,
     bytes: usize,
     library: Spread,
     room: Spread,
     rust: Spread,
+    freed: Spread,
     pass: Spread,
     ratio: Spread,
+    freed_ratio: Spread,
 }
 
-fn rust_sample(list: &[Token], turns: usize) -> f64 {
+/// The Rust's time for reading, and for reading and freeing.
+fn rust_sample(list: &[Token], turns: usize) -> (f64, f64) {
     let mut lists: Vec<Vec<Token>> = (0..turns).map(|_| list.to_vec()).collect();
     let mut kept = Vec::with_capacity(turns);
-    sample(turns, || {
+    let read = sample(turns, || {
         let mut parser = Parser::new(lists.pop().unwrap_or_default(), None);
         let read = parser.parse();
         assert!(read.is_ok(), "the Rust refuses the list");
         kept.push((parser, read));
-    })
+    });
+    let free = sample(turns, || drop(kept.pop()));
+    (read, read + free)
 }
 
 fn measure(list: &List, rounds: usize) -> Times {
@@ -80,7 +86,8 @@ fn measure(list: &List, rounds: usize) -> Times {
     let mut tables = Tables::exact(list);
     let mut room = Room::new();
     let turns = (200_000 / list.tokens()).max(2);
-    let (mut library, mut own, mut rust, mut pass, mut ratio) = (vec![], vec![], vec![], vec![], vec![]);
+    let (mut library, mut own, mut rust, mut freed) = (vec![], vec![], vec![], vec![]);
+    let (mut pass, mut ratio, mut freed_ratio) = (vec![], vec![], vec![]);
     for _ in 0..rounds {
         let a = sample(turns, || {
             black_box(tables.read(black_box(list)));
@@ -88,15 +95,17 @@ fn measure(list: &List, rounds: usize) -> Times {
         let b = sample(turns, || {
             black_box(room.read_file(black_box(&list.text), black_box(&list.words)).is_ok());
         });
-        let c = rust_sample(&built, (turns / 8).max(1));
+        let (c, e) = rust_sample(&built, (turns / 8).max(1));
         let d = sample(turns, || {
             black_box(black_box(&list.words).iter().fold(0u32, |sum, &word| sum.wrapping_add(word)));
         });
         library.push(a);
         own.push(b);
         rust.push(c);
+        freed.push(e);
         pass.push(d);
         ratio.push(c / a);
+        freed_ratio.push(e / a);
     }
     Times {
         tokens: list.tokens(),
@@ -104,8 +113,10 @@ fn measure(list: &List, rounds: usize) -> Times {
         library: spread(library),
         room: spread(own),
         rust: spread(rust),
+        freed: spread(freed),
         pass: spread(pass),
         ratio: spread(ratio),
+        freed_ratio: spread(freed_ratio),
     }
 }
 
@@ -117,23 +128,14 @@ fn each(times: &Times, time: f64) -> f64 {
 fn ratios(rounds: usize) {
     println!("60,000 tokens, {rounds} rounds; least, middle and greatest; nanoseconds a token");
     println!();
-    println!("| Shape | Tokens | Rust / library | Library | With own room | Rust | Bare pass | Bytes a token |");
-    println!("|---|---|---|---|---|---|---|---|");
+    println!("| Shape | Rust / library | with freeing | Library | With own room | Rust | with freeing | Bare pass | Bytes a token |");
+    println!("|---|---|---|---|---|---|---|---|---|");
     for (name, make) in SHAPES {
         let times = measure(&make(60_000), rounds);
-        let show = |s: Spread| format!("{:.1} {:.1} {:.1}", each(&times, s.least), each(&times, s.middle), each(&times, s.greatest));
-        println!(
-            "| {name} | {} | {:.1} {:.1} {:.1} | {} | {} | {} | {} | {:.1} |",
-            times.tokens,
-            times.ratio.least,
-            times.ratio.middle,
-            times.ratio.greatest,
-            show(times.library),
-            show(times.room),
-            show(times.rust),
-            show(times.pass),
-            times.bytes as f64 / times.tokens as f64
-        );
+        let show = |s: Spread| format!("{:.1} {:.1} {:.1}", s.least, s.middle, s.greatest);
+        let each = |s: Spread| show(Spread { least: each(&times, s.least), middle: each(&times, s.middle), greatest: each(&times, s.greatest) });
+        let cells = [show(times.ratio), show(times.freed_ratio), each(times.library), each(times.room), each(times.rust), each(times.freed), each(times.pass)];
+        println!("| {name} | {} | {:.1} |", cells.join(" | "), times.bytes as f64 / times.tokens as f64);
     }
 }
 

@@ -73,7 +73,7 @@ fn large_files_are_read_at_once() {
     assert_eq!(names(&source).len(), 2_000);
 }
 
-/// The documents speak of about 400 KB: a thread with half a megabyte has to do, or it would end by a fault.
+/// The documents speak of about 450 KB: a thread with half a megabyte has to do, or it would end by a fault.
 #[test]
 fn half_a_megabyte_of_stack_suffices() {
     let source = many_macros();

@@ -22,7 +22,7 @@ use Rattle.definitions.specs.Names.{hashFrom, hashOf, bucket, mark, name
 -- ---- the hash
 
 pub hash-step : (h i : ℕ) (name : List ℕ) → i < length name
-    → hashFrom ((h * 16777619 + getD name i 0) % 4294967296) (drop (i + 1) name) ≡ hashFrom h (drop i name)
+    → hashFrom ((h + getD name i 0) * 2654435761 % 4294967296) (drop (i + 1) name) ≡ hashFrom h (drop i name)
 unfolding hashFrom
 hash-step h i name lt = rw (add-one i, drop-cons name i 0 lt)
 

@@ -12,7 +12,7 @@ use Rattle.tokens.specs.Name.{oneOf}
 -- a number below 2 ^ 32 for every list of bytes; which one is of no account but for speed
 unfoldable pub hashFrom : ℕ → List ℕ → ℕ
 hashFrom h [] = h
-hashFrom h (b ∷ bs) = hashFrom ((h * 16777619 + b) % 4294967296) bs
+hashFrom h (b ∷ bs) = hashFrom ((h + b) * 2654435761 % 4294967296) bs
 
 abbrev pub hashOf : List ℕ → ℕ
 hashOf name = hashFrom 0 name

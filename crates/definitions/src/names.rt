@@ -14,14 +14,15 @@ ghost use Rattle.tokens.specs.Token.{view, tokenAt};
 ghost use Rattle.tokens.specs.Name.{oneOf};
 ghost use Rattle.definitions.specs.Names.{hashOf, bucket, mark, namesAt, Noted, Checked};
 
-// The hash of a name. Its modulus is a power of two, so that it costs a mask and no division for each byte.
+// The hash of a name. Its modulus is a power of two, so that it costs a mask and no division for each byte; a byte is added before it is multiplied, so that
+// the last one too reaches the high bits.
 fn hash_of(name: &[u8]) -> u32
     ensures { λ r. ⌜ r ≡ hashOf (now (name .entry)) ⌝ }
 {
     let mut h: u64 = 0;
     let mut i = 0;
     while i < name.len() {
-        h = (h * 16777619 + name[i] as u64) % 4294967296;
+        h = (h + name[i] as u64) * 2654435761 % 4294967296;
         i += 1;
     }
     h as u32

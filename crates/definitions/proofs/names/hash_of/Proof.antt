@@ -18,9 +18,6 @@ abbrev μ-loop : tie.MeasureT-loop
 loop-holds : tie.Need-loop-holds Inv-loop μ-loop
 loop-holds c = (omega arith, omega arith, refl)
 
-mul-h : tie.Need-mul-h Inv-loop μ-loop
-mul-h c = search needs
-
 shared-slice-read-h : tie.Need-shared-slice-read-h Inv-loop μ-loop
 shared-slice-read-h c = search needs
 
@@ -29,6 +26,9 @@ cast-h c = omega (arith, c .shared-slice-known .given (c .before .before .loop .
 
 add-h : tie.Need-add-h Inv-loop μ-loop
 add-h c = omega (arith, c .shared-slice-known .given (c .before .before .loop .i))
+
+mul-h : tie.Need-mul-h Inv-loop μ-loop
+mul-h c = omega (arith, c .shared-slice-known .given (c .before .before .loop .i))
 
 add-i : tie.Need-add-i Inv-loop μ-loop
 add-i c = search needs
@@ -52,10 +52,10 @@ hash-of-spec =
     Inv-loop
     μ-loop
     loop-holds
-    mul-h
     shared-slice-read-h
     cast-h
     add-h
+    mul-h
     add-i
     loop-less
     loop-again
