@@ -149,6 +149,37 @@ fn parse_few(
     )
 }
 
+// For a list of some thousand tokens: clearing the room for any list would cost it more than its reading is worth.
+fn parse_some(
+    text: &[u8],
+    tokens: &[u32],
+    kept: &[u32],
+    definitions: &mut [u32],
+    statements: &mut [u32],
+    arguments: &mut [u32],
+) -> FileRead
+    requires { ⌜ Kept (now tokens) (now kept) ⌝ }
+    requires { ⌜ length (now kept) ≤ 12288 ⌝ }
+    ensures { λ r. ⌜ FileParsed (reader.parse base true [] 0 (view (now (text .entry)) (now (tokens .entry)) (now (kept .entry))))
+        (now (definitions .entry)) (now (statements .entry)) (now (arguments .entry)) r
+        (now (definitions .exit)) (now (statements .exit)) (now (arguments .exit)) ⌝ }
+{
+    let mut marks = [0u8; 32768];
+    let mut places = [0usize; 4096];
+    let mut hashes = [0u32; 4096];
+    parse(
+        text,
+        tokens,
+        kept,
+        definitions,
+        statements,
+        arguments,
+        &mut marks,
+        &mut places,
+        &mut hashes,
+    )
+}
+
 // For any list.
 fn parse_many(
     text: &[u8],
@@ -195,6 +226,9 @@ pub fn read_definitions(
 {
     if kept.len() <= 1536 {
         return parse_few(text, tokens, kept, definitions, statements, arguments);
+    }
+    if kept.len() <= 12288 {
+        return parse_some(text, tokens, kept, definitions, statements, arguments);
     }
     parse_many(text, tokens, kept, definitions, statements, arguments)
 }

@@ -9,7 +9,9 @@ use mathlib.Core.Logic.{⊎-elim}
 use native.Mathlib.Nat.{eq-or-lt-of-le}
 use native.Mathlib.Omega.{arith}
 use native.Mathlib.Numerals.{add-one}
-use lib.ListN.{length}
+use native.Mathlib.Nat.{add-zero}
+use lib.ListN.{length, set}
+use lib.Seq.{sets, set-set}
 use Rattle.tokens.specs.Kind.{Eof, kinds}
 use Rattle.tokens.specs.Literal.{isLiteral}
 use Rattle.tokens.specs.Token.{kindOf, startOf, endOf, tokenCount, part}
@@ -17,7 +19,7 @@ use Rattle.tokens.specs.WellFormed.{goodAfter, good, badFrom, firstBad, 
 use Rattle.tokens.specs.declared.door.Door.{Door}
 use Rattle.tokens.specs.declared.door.Door.the-variants.{NotWellFormed, KeptTooShort, StartOutside, Ready}
 use Rattle.tokens.specs.Door.{door}
-use Rattle.tokens.specs.Kept.{dropped, keptFrom, keptOf, keepUnless}
+use Rattle.tokens.specs.Kept.{dropped, keptFrom, keptOf, keepUnless, LastKept}
 use Rattle.tokens.proofs.Laws.{lt-or-le, left-step, left-none, and-left, and-right}
 
 -- ---- the first bad token
@@ -107,18 +109,23 @@ counted : (b : Bool) (i : ℕ) (rest : List ℕ) → length (keepUnless b i rest
 counted true i rest = omega arith
 counted false i rest = omega arith
 
+-- a number that is written where the next one is written is of no account
+sets-over : (t rest : List ℕ) (m v : ℕ) → 0 < length rest → sets (set t m v) m rest ≡ sets t m rest
+sets-over t (x ∷ rest) m v h = rw (set-set t m v x)
+
+-- a turn of `keep`: the number is written, and stays unless it is dropped
+pub keep-turn : (b : Bool) (t rest : List ℕ) (m i : ℕ) → (b ≡ true → 0 < length rest) → sets (set t m i) (m + cond b 0 1) rest ≡ sets t m (keepUnless b i rest)
+keep-turn true t rest m i some = rw add-zero (sets-over t rest m i (some refl))
+keep-turn false t rest m i some = rw add-one
+
 module _ (words : List ℕ) (n i : ℕ) where
+  pub kept-turn : i < n → keptFrom words (n - i) i ≡ keepUnless (dropped (kindOf words i)) i (keptFrom words (n - (i + 1)) (i + 1))
+  unfolding keptFrom
+  kept-turn h = rw (left-step n i h)
+
   pub kept-count : i < n → length (keptFrom words (n - i) i) ≡ cond (dropped (kindOf words i)) 0 1 + length (keptFrom words (n - (i + 1)) (i + 1))
   unfolding keptFrom
   kept-count h = rw (left-step n i h) (counted (dropped (kindOf words i)) i (keptFrom words (n - (i + 1)) (i + 1)))
-
-  pub kept-drop : i < n → dropped (kindOf words i) ≡ true → keptFrom words (n - i) i ≡ keptFrom words (n - (i + 1)) (i + 1)
-  unfolding keptFrom
-  kept-drop h e = rw (left-step n i h, e)
-
-  pub kept-take : i < n → dropped (kindOf words i) ≡ false → keptFrom words (n - i) i ≡ i ∷ keptFrom words (n - (i + 1)) (i + 1)
-  unfolding keptFrom
-  kept-take h e = rw (left-step n i h, e)
 
   pub kept-none : n ≤ i → keptFrom words (n - i) i ≡ []
   unfolding keptFrom
@@ -234,6 +241,18 @@ kept-some words (suc left) i j a b e = go (dropped (kindOf words i)) refl (λ h.
         ⊎-elim (λ (same : i ≡ j). absurd (true≢false (sym t ∙ ap (λ (k : ℕ). dropped (kindOf words k)) same ∙ e))) (λ (later : i < j). rest (omega arith)) (eq-or-lt-of-le a)
     go false t rest = omega arith
 
+-- where the last token is kept: from each on one is still to come, and behind a dropped one too
+module _ (words : List ℕ) (last : LastKept words) (i : ℕ) (h : i < tokenCount words) where
+  pub kept-ahead : 0 < length (keptFrom words (tokenCount words - i) i)
+  kept-ahead = kept-some words (tokenCount words - i) i (tokenCount words - 1) (omega arith) (omega arith) (last (tokenCount words - 1) (omega arith))
+
+  pub kept-behind : dropped (kindOf words i) ≡ true → 0 < length (keptFrom words (tokenCount words - (i + 1)) (i + 1))
+  kept-behind e =
+      ⊎-elim
+      (λ (end : i + 1 ≡ tokenCount words). absurd (true≢false (sym e ∙ last i end)))
+      (λ (more : i + 1 < tokenCount words). kept-some words (tokenCount words - (i + 1)) (i + 1) (tokenCount words - 1) (omega arith) (omega arith) (last (tokenCount words - 1) (omega arith)))
+      (eq-or-lt-of-le (omega arith))
+
 some-tokens : (text words : List ℕ) → wholeGood text words ≡ true → 0 < tokenCount words
 unfolding wholeGood
 some-tokens text words e =
@@ -249,6 +268,10 @@ last-is-eof text words f i e =
     let eof = eofGood (eqb (i + 1) (tokenCount words)) (kindOf words i) in
     let test = and-right head eof (and-left (head && eof) _ (f .each i (omega arith))) in
     eqb-true _ _ (rw (eq-eqb _ _ e) at test)
+
+pub last-kept : (text words : List ℕ) → WellFormed text words → LastKept words
+unfolding dropped
+last-kept text words f i e = rw (last-is-eof text words f i e)
 
 -- it is kept, so that a file, read from start 0, never gets 31
 pub kept-not-empty : (text words : List ℕ) → WellFormed text words → 0 < length (keptOf words)

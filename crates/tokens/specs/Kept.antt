@@ -1,5 +1,6 @@
 -- Document 01: "Whitespace and Comment are dropped. The kept list receives the numbers of the other tokens in order".
 use Prim.Native.Nat.{ℕ, zero, suc, _+_}
+use mathlib.Core.Path.{_≡_}
 use mathlib.Core.Bool.{Bool, true, false, _||_}
 use mathlib.Core.List.{List, [], _∷_}
 use lib.Dec.{eqb}
@@ -23,3 +24,7 @@ keptFrom words (suc left) i = keepUnless (dropped (kindOf words i)) i (keptFrom 
 -- what the kept list receives
 unfoldable pub keptOf : List ℕ → List ℕ
 keptOf words = keptFrom words (tokenCount words) 0
+
+-- the last token is kept, as Eof is
+abbrev pub LastKept : List ℕ → Type 0
+LastKept words = (i : ℕ) → i + 1 ≡ tokenCount words → dropped (kindOf words i) ≡ false

@@ -1,6 +1,5 @@
 // The door: refusals 30, 35 and 31, in that order, before anything lent is written; then the kept list.
 use crate::literal::is_literal;
-use crate::table::put_word;
 use crate::token::part_of;
 ghost use mathlib.Core.Path.{_≡_};
 ghost use Prim.Native.Nat.{_<_, _≤_};
@@ -11,7 +10,7 @@ ghost use lib.Seq.{sets};
 ghost use Rattle.tokens.specs.Kind.{kinds, Eof};
 ghost use Rattle.tokens.specs.Token.{tokenCount};
 ghost use Rattle.tokens.specs.WellFormed.{rangeGood, eofGood, contentsGood, wholeGood, goodAfter, firstBad};
-ghost use Rattle.tokens.specs.Kept.{dropped, keptOf};
+ghost use Rattle.tokens.specs.Kept.{dropped, keptOf, LastKept};
 ghost use Rattle.tokens.specs.Door.{door, Prepared};
 
 // What the door answers: a refusal with its cursor, or the kept count.
@@ -163,21 +162,20 @@ fn count_kept(tokens: &[u32]) -> usize
     count
 }
 
-// Writes the kept list; its words beyond are untouched.
+// Writes the kept list; its words beyond are untouched. No branch: a dropped token's number is written as well, and the next kept one's over it, for the last
+// token is kept.
 fn keep(tokens: &[u32], kept: &mut [u32])
     requires { ⌜ tokenCount (now tokens) ≤ 65536 ⌝ }
+    requires { ⌜ length (keptOf (now tokens)) ≤ length (now kept) ⌝ }
+    requires { ⌜ LastKept (now tokens) ⌝ }
     ensures { λ _. ⌜ now (kept .exit) ≡ sets (now (kept .entry)) 0 (keptOf (now (tokens .entry))) ⌝ }
 {
     let n = tokens.len() / 4;
     let mut m = 0;
     let mut i = 0;
     while i < n {
-        if is_dropped(tokens[i * 4]) {
-            i += 1;
-            continue;
-        }
-        put_word(kept, m, i as u32);
-        m += 1;
+        kept[m] = i as u32;
+        m += kept_one(tokens[i * 4]);
         i += 1;
     }
 }

@@ -1,5 +1,5 @@
 use mathlib.Core.Path.{refl, sym, _∙_}
-use Rattle.tokens.proofs.DoorLaws.{ready}
+use Rattle.tokens.proofs.DoorLaws.{ready, last-kept}
 use borrow.Author.Needs.{needs}
 use Rattle.tokens.proofs.door.prepare.Statement.{statement}
 use Rattle.tokens.proofs.door.prepare.Tie as tie
@@ -20,7 +20,10 @@ enum-known-count-2 : tie.Need-enum-known-count-2
 enum-known-count-2 c = search needs
 
 keep-requires : tie.Need-keep-requires
-keep-requires c κs = ready (c .before .before .before .before .before .before .before .before .args .text .now) (c .before .before .before .before .before .before .before .before .args .tokens .now) _ _ (sym (c .before .before .before .before .examine .ensures) ∙ c .before .before .count2 .given .1) .few
+keep-requires c κs =
+    let at = c .before .before .before .before .before .before .before .before .args in
+    let through = ready (at .text .now) (at .tokens .now) _ _ (sym (c .before .before .before .before .examine .ensures) ∙ c .before .before .count2 .given .1) in
+    (through .few, (rw (through .count) (through .room-enough), last-kept (at .text .now) (at .tokens .now) (through .formed)))
 
 returns : tie.Need-returns
 returns c = record { answer = sym (c .before .at .given .1) ∙ c .before .before .before .examine .ensures; list = refl }
