@@ -20,7 +20,6 @@ pub use push::push_overflows;
 pub use push::push_size;
 pub use table::clear;
 pub use table::put_record;
-pub use table::put_word;
 pub use table::start_of;
 pub use token::end_at;
 pub use token::extra_at;

@@ -1,18 +1,9 @@
 // Tables of records, in words: what is written is written only where it fits whole.
 ghost use mathlib.Core.Path.{_≡_};
 ghost use Prim.Native.Nat.{_+_, _*_, _≤_, min};
-ghost use lib.ListN.{length, set, replicate};
+ghost use lib.ListN.{length, replicate};
 ghost use lib.Seq.{sets};
 ghost use Rattle.tokens.specs.Table.{put};
-
-// A word at an index, where there is one.
-pub fn put_word(table: &mut [u32], at: usize, word: u32)
-    ensures { λ _. ⌜ now (table .exit) ≡ set (now (table .entry)) at word ⌝ }
-{
-    if at < table.len() {
-        table[at] = word;
-    }
-}
 
 // Words one behind the other, where there is room for all.
 fn put_words(table: &mut [u32], at: usize, words: &[u32])
