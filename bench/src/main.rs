@@ -18,8 +18,7 @@ use huff_parser::Parser;
 use huff_utils::token::Token;
 use shapes::{List, SHAPES};
 use simmerotter::{raw, Room};
-use std::hint::black_box;
-use timing::{sample, spread, Spread};
+use timing::{black_box, sample, spread, Spread};
 
 /// The lent tables, each exactly as long as a list needs.
 struct Tables {

@@ -2,6 +2,12 @@
 
 use std::time::Instant;
 
+/// The value as it is, unknown to the optimiser: `std::hint::black_box` for compilers that lack it.
+pub fn black_box<T: Copy>(value: T) -> T {
+    // A volatile read of a value that is there.
+    unsafe { std::ptr::read_volatile(&value) }
+}
+
 /// Nanoseconds that `work` takes for each of `turns` calls.
 pub fn sample(turns: usize, mut work: impl FnMut()) -> f64 {
     let start = Instant::now();
