@@ -23,7 +23,7 @@ use Rattle.statements.specs.declared.item.Item.{Item}
 use Rattle.statements.specs.declared.item.Item.the-variants as item
 use Rattle.statements.specs.declared.list.ArgList.{ArgList}
 use Rattle.statements.specs.declared.list.ArgList.the-variants as lists
-use Rattle.statements.specs.Answers.{partBytes}
+use Rattle.statements.specs.Answers.{partBytes, ListRead}
 
 -- ---- reading
 
@@ -133,6 +133,12 @@ calledTable st s i a ty (lists.Refused c q) st′ = Unit {0}
 pub record CalledPut (st : List ℕ) (s : Tally) (i a ty : ℕ) (list : ArgList) (r : Items) (st′ : List ℕ) : Type 0 where
   pub is : r ≡ calledItems s list
   pub table : calledTable st s i a ty list st′
+
+-- a list that was read behind s.at, and the statement that it belongs to
+pub record ListPut (s : Tally) (i a ty size : ℕ) (read : Res (List Argument)) (st ar : List ℕ) (r : Items) (st′ ar′ : List ℕ) : Type 0 where
+  pub list : ArgList
+  pub listed : ListRead (s .arguments) (s .at + 1) size read ar list ar′
+  pub written : CalledPut st s i a ty list r st′
 
 -- what a list's bounds give its writer
 abbrev pub listInside : Tally → ArgList → Type 0

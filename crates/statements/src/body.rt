@@ -54,6 +54,7 @@ pub fn parse_items(
             arguments,
             i,
             a,
+            k,
         ) {
             Items::Done(next) => {
                 t = next;

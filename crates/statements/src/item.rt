@@ -2,7 +2,6 @@
 use crate::argument::Sort;
 use crate::list::ArgList;
 use crate::list::parse_args;
-use crate::list::parse_macro_call_args;
 use tokens::extra_at;
 use tokens::is_value_push;
 use tokens::kind_at;
@@ -11,15 +10,16 @@ use tokens::push_size;
 use tokens::put_record;
 use tokens::significant_bytes;
 use tokens::text_at;
-ghost use Prim.Native.Nat.{_+_, _≤_};
+ghost use Prim.Native.Nat.{_+_, _≤_, _<_};
 ghost use mathlib.Core.Path.{_≡_};
 ghost use lib.ListN.{length};
-ghost use Rattle.tokens.specs.Kind.{CloseBracket, RightAngle};
-ghost use Rattle.tokens.specs.Token.{kindAt, extraAt, textAt, view};
+ghost use Rattle.tokens.specs.Kind.{CloseBracket, OpenParen, RightAngle};
+ghost use Rattle.tokens.specs.Token.{kindAt, extraAt, textAt, view, KindAt};
 ghost use Rattle.tokens.specs.Table.{put};
-ghost use Rattle.grammar.specs.Reader.{item};
-ghost use Rattle.statements.specs.Answers.{Place, Counting, SimpleParsed, tokensFrom};
-ghost use Rattle.statements.specs.Item.{statementWords, simpleWords, further, Small, enclosedItem, opcodeItem, identItem, ItemRead, OnePut, PushPut, CalledPut, listInside, LoneSmall};
+ghost use Rattle.grammar.specs.Result.{plain, expect};
+ghost use Rattle.grammar.specs.Reader.{closedList, item};
+ghost use Rattle.statements.specs.Answers.{Place, Counting, SimpleParsed, one, tokensFrom};
+ghost use Rattle.statements.specs.Item.{statementWords, simpleWords, further, Small, enclosedItem, opcodeItem, identItem, ItemRead, OnePut, PushPut, CalledPut, ListPut, listInside, LoneSmall};
 
 // How far the reading is: the next place, the records written so far, and the bytes of the statements so far, which count while all of them have a length.
 pub struct Tally {
@@ -155,13 +155,21 @@ fn ident_item(tokens: &[u32], kept: &[u32], p: usize) -> Item
     })
 }
 
-// The item at p, up to the list that it may have.
-fn one_item(text: &[u8], tokens: &[u32], kept: &[u32], takes: bool, wrong: u32, p: usize) -> Item
+// The item at p, where a token of kind k stands, up to the list that it may have.
+fn one_item(
+    text: &[u8],
+    tokens: &[u32],
+    kept: &[u32],
+    takes: bool,
+    wrong: u32,
+    p: usize,
+    k: u32,
+) -> Item
     requires { ⌜ Place (now kept) p ⌝ }
+    requires { ⌜ KindAt (now tokens) (now kept) p k ⌝ }
     ensures { λ r. ⌜ ItemRead takes p (length (now (kept .entry))) (view (now (text .entry)) (now (tokens .entry)) (now (kept .entry)))
         (item takes wrong p (tokensFrom (now (text .entry)) (now (tokens .entry)) (now (kept .entry)) p)) r ⌝ }
 {
-    let k = kind_at(tokens, kept, p);
     match k {
         40 => {
             let n = significant_bytes(text_at(text, tokens, kept, p));
@@ -309,8 +317,33 @@ fn put_push(statements: &mut [u32], s: Tally, i: usize, a: usize, n: usize) -> T
     put_one(statements, t, i, a, literal)
 }
 
+// A statement at s.at and the list of arguments behind it: a call, or a builtin. A function of its own, so that what a list's reader is lent costs no other item.
+fn parse_called(
+    text: &[u8],
+    tokens: &[u32],
+    kept: &[u32],
+    sort: Sort,
+    ty: u32,
+    s: Tally,
+    statements: &mut [u32],
+    arguments: &mut [u32],
+    i: usize,
+    a: usize,
+) -> Items
+    requires { ⌜ Counting (now kept) s i a ⌝ }
+    requires { ⌜ s .at < length (now kept) ⌝ }
+    ensures { λ r. ⌜ ListPut s i a ty (length (now (kept .entry)))
+        (expect OpenParen (plain 1) (λ o. closedList (one sort)) (s .at + 1) (tokensFrom (now (text .entry)) (now (tokens .entry)) (now (kept .entry)) (s .at + 1)))
+        (now (statements .entry)) (now (arguments .entry)) r (now (statements .exit)) (now (arguments .exit)) ⌝ }
+{
+    let p = s.at + 1;
+    let n = s.arguments;
+    let list = parse_args(text, tokens, kept, sort, p, arguments, n);
+    put_called(statements, s, i, a, ty, list)
+}
+
 // An item at s.at, written from record s.statements and s.arguments of the lent tables on; i and a are the numbers of records before the lent tables.
-// `takes`: a value push takes its literal here; `wrong`: the number for a token that begins no item.
+// `takes`: a value push takes its literal here; `wrong`: the number for a token that begins no item; k: the kind at s.at, which the caller has looked at.
 pub fn parse_item(
     text: &[u8],
     tokens: &[u32],
@@ -322,25 +355,42 @@ pub fn parse_item(
     arguments: &mut [u32],
     i: usize,
     a: usize,
+    k: u32,
 ) -> Items
     requires { ⌜ Counting (now kept) s i a ⌝ }
+    requires { ⌜ KindAt (now tokens) (now kept) (s .at) k ⌝ }
     ensures { λ r. ⌜ SimpleParsed takes s i a (length (now (kept .entry)))
         (item takes wrong (s .at) (tokensFrom (now (text .entry)) (now (tokens .entry)) (now (kept .entry)) (s .at)))
         (now (statements .entry)) (now (arguments .entry)) r (now (statements .exit)) (now (arguments .exit)) ⌝ }
 {
     let at = s.at;
-    let n = s.arguments;
-    match one_item(text, tokens, kept, takes, wrong, at) {
+    match one_item(text, tokens, kept, takes, wrong, at, k) {
         Item::One(x) => Items::Done(put_one(statements, s, i, a, x)),
         Item::Push(bytes) => Items::Done(put_push(statements, s, i, a, bytes)),
-        Item::Call => {
-            let list = parse_macro_call_args(text, tokens, kept, at + 1, arguments, n);
-            put_called(statements, s, i, a, 4, list)
-        }
-        Item::Builtin => {
-            let list = parse_args(text, tokens, kept, Sort::Builtin, at + 1, arguments, n);
-            put_called(statements, s, i, a, 8, list)
-        }
+        Item::Call => parse_called(
+            text,
+            tokens,
+            kept,
+            Sort::Call,
+            4,
+            s,
+            statements,
+            arguments,
+            i,
+            a,
+        ),
+        Item::Builtin => parse_called(
+            text,
+            tokens,
+            kept,
+            Sort::Builtin,
+            8,
+            s,
+            statements,
+            arguments,
+            i,
+            a,
+        ),
         Item::Refused(c, q) => Items::Refused(c, q),
     }
 }

@@ -1,4 +1,4 @@
-// Lists of arguments: the Rust's `parse_args` in all four uses, and `parse_macro_call_args`.
+// Lists of arguments: the Rust's `parse_args` in all four uses, and in a fifth, `Sort::Call`, its `parse_macro_call_args`.
 use crate::argument::Arg;
 use crate::argument::Argument;
 use crate::argument::Sort;
@@ -13,7 +13,7 @@ ghost use lib.ListN.{length};
 ghost use Rattle.tokens.specs.Kind.{OpenParen};
 ghost use Rattle.tokens.specs.Table.{put};
 ghost use Rattle.grammar.specs.Result.{plain, expect};
-ghost use Rattle.grammar.specs.Reader.{closedList, callArgument};
+ghost use Rattle.grammar.specs.Reader.{closedList};
 ghost use Rattle.statements.specs.Answers.{Place, ListRead, one, argumentWords, tokensFrom};
 
 // How many argument records there are behind the list, and the place behind its `)`; or a refusal's number and cursor.
@@ -101,22 +101,4 @@ pub fn parse_args(
         return ArgList::Refused(1, p);
     }
     parse_list(text, tokens, kept, sort, p + 1, arguments, n)
-}
-
-// A call's list, from its `(` on.
-pub fn parse_macro_call_args(
-    text: &[u8],
-    tokens: &[u32],
-    kept: &[u32],
-    p: usize,
-    arguments: &mut [u32],
-    n: usize,
-) -> ArgList
-    requires { ⌜ Place (now kept) p ⌝ }
-    requires { ⌜ n ≤ 65536 ⌝ }
-    ensures { λ r. ⌜ ListRead n p (length (now (kept .entry)))
-        (expect OpenParen (plain 1) (λ o. closedList callArgument) p (tokensFrom (now (text .entry)) (now (tokens .entry)) (now (kept .entry)) p))
-        (now (arguments .entry)) r (now (arguments .exit)) ⌝ }
-{
-    parse_args(text, tokens, kept, Sort::Call, p, arguments, n)
 }

@@ -54,7 +54,7 @@ returns-2 c =
     w .inv .onward _ _ _ (items-end (a .takes) (a .wrong) (a .i) (a .a) (length kept) (view text words kept) (view-length text words kept) (stop .1) (stop .0))
 
 parse-item-requires : tie.Need-parse-item-requires Inv-loop μ-loop
-parse-item-requires c κs = c .before .before .before .before .before .loop .inv .counting
+parse-item-requires c κs = (c .before .before .before .before .before .loop .inv .counting, c .before .before .before .before .kind-at .ensures)
 
 enum-known-next : tie.Need-enum-known-next Inv-loop μ-loop
 enum-known-next c = search needs
