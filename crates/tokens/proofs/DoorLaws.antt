@@ -1,25 +1,25 @@
 -- The door's walks over the tokens, a turn at a time, and what its answers mean. Assumes nothing.
-use Prim.Native.Nat.{ℕ, zero, suc, _+_, _-_, _%_, _≤_, _<_}
+use Prim.Native.Nat.{ℕ, zero, suc, _+_, _-_, _*_, _%_, _≤_, _<_}
 use mathlib.Core.Path.{_≡_, refl, sym, ap, _∙_}
-use mathlib.Core.Bool.{Bool, true, false, cond, not, _&&_, and-true, and-false, true≢false}
-use borrow.Author.Tests.{ltb-true, ltb-false, leb-true, eqb-true, lt-ltb, eq-eqb, ne-eqb}
+use mathlib.Core.Bool.{Bool, true, false, cond, not, _&&_, and-true, and-false, true≢false, false≢true}
+use borrow.Author.Tests.{not-true, ltb-true, ltb-false, leb-true, eqb-true, lt-ltb, le-ltb, le-leb, eq-eqb, ne-eqb}
 use lib.Dec.{ltb, leb, eqb}
 use mathlib.Core.List.{List, [], _∷_}
 use mathlib.Core.Logic.{⊎-elim}
 use native.Mathlib.Nat.{eq-or-lt-of-le}
 use native.Mathlib.Omega.{arith}
 use native.Mathlib.Numerals.{add-one}
-use native.Mathlib.Nat.{add-zero}
-use lib.ListN.{length, set}
+use native.Mathlib.Nat.{add-zero, sub-zero}
+use lib.ListN.{length, getD, set}
 use lib.Seq.{sets, set-set}
 use Rattle.tokens.specs.Kind.{Eof, kinds}
 use Rattle.tokens.specs.Literal.{isLiteral}
-use Rattle.tokens.specs.Token.{kindOf, startOf, endOf, tokenCount, part}
+use Rattle.tokens.specs.Token.{kindOf, startOf, endOf, extraOf, tokenCount, part}
 use Rattle.tokens.specs.WellFormed.{goodAfter, good, badFrom, firstBad, prevEnd, rangeGood, eofGood, textGood, extraGood, contentsGood, wholeGood, WellFormed}
 use Rattle.tokens.specs.declared.door.Door.{Door}
 use Rattle.tokens.specs.declared.door.Door.the-variants.{NotWellFormed, KeptTooShort, StartOutside, Ready}
 use Rattle.tokens.specs.Door.{door}
-use Rattle.tokens.specs.Kept.{dropped, keptFrom, keptOf, keepUnless, LastKept}
+use Rattle.tokens.specs.Kept.{dropped, keptFrom, keptOf, keepUnless, numbers, LastKept}
 use Rattle.tokens.proofs.Laws.{lt-or-le, left-step, left-none, and-left, and-right}
 
 -- ---- the first bad token
@@ -45,16 +45,26 @@ module _ (text words : List ℕ) (n i : ℕ) where
   unfolding badFrom
   bad-none h = rw (left-none n i h)
 
+-- a kind below Ident and other than Eof, as the first test of `contents_good` has it
+abbrev Plain : ℕ → Bool → Type 0
+Plain kind b = (not (eqb kind 0) && ltb kind 38) ≡ b
+
+-- behind that test, a kind other than Eof is Ident or one above it
+pub not-plain : (kind : ℕ) → Plain kind false → (kind ≡ 0 → ⊥) → 38 ≤ kind
+not-plain kind h e = ltb-false _ _ (rw (ne-eqb kind 0 e) at h)
+
 -- what a token that is not the last one is asked, kind by kind
 module _ (text : List ℕ) (kind start end extra : ℕ) where
   abbrev Asked : Bool → Type 0
   Asked b = (ltb kind kinds && eofGood false kind && contentsGood text kind start end extra) ≡ b
 
-  -- of the kinds below Ident no text and no extra
-  pub asked-plain : kind < 38 → Asked (not (eqb kind Eof) && eqb extra 0)
+  -- a plain kind has no text of its own and no extra
+  pub asked-plain : Plain kind true → Asked (eqb extra 0)
   unfolding eofGood contentsGood textGood extraGood
   asked-plain h =
-      rw (lt-ltb kind 46 (omega arith), ne-eqb kind 38 (λ e. omega arith), ne-eqb kind 39 (λ e. omega arith), ne-eqb kind 40 (λ e. omega arith), ne-eqb kind 41 (λ e. omega arith), ne-eqb kind 42 (λ e. omega arith))
+      let no-eof = not-true (eqb kind 0) (and-left (not (eqb kind 0)) (ltb kind 38) h) in
+      let below = ltb-true kind 38 (and-right (not (eqb kind 0)) (ltb kind 38) h) in
+      rw (lt-ltb kind 46 (omega arith), no-eof, ne-eqb kind 38 (λ e. omega arith), ne-eqb kind 39 (λ e. omega arith), ne-eqb kind 40 (λ e. omega arith), ne-eqb kind 41 (λ e. omega arith), ne-eqb kind 42 (λ e. omega arith))
 
   pub asked-opcode : kind ≡ 41 → Asked (leb extra 255)
   unfolding eofGood contentsGood textGood extraGood
@@ -68,11 +78,17 @@ module _ (text : List ℕ) (kind start end extra : ℕ) where
   unfolding eofGood contentsGood textGood extraGood
   asked-literal h e = rw (h, e, and-true)
 
-  -- behind these three only Ident and Label have a text of their own
-  pub asked-other : 38 ≤ kind → (kind ≡ 41 → ⊥) → (kind ≡ 42 → ⊥) → (extra ≡ 0 → ⊥) → Asked false
-  unfolding eofGood contentsGood extraGood
-  asked-other h a b e = rw (ne-eqb kind 41 a, ne-eqb kind 42 b, ne-eqb extra 0 e, and-false, and-false)
+  -- only Opcode and Num have an extra
+  pub asked-extra : (kind ≡ 41 → ⊥) → (kind ≡ 42 → ⊥) → (extra ≡ 0 → ⊥) → Asked false
+  unfolding contentsGood extraGood
+  asked-extra a b e = rw (ne-eqb kind 41 a, ne-eqb kind 42 b, ne-eqb extra 0 e, and-false, and-false)
 
+  -- an Eof stands last
+  pub asked-eof : kind ≡ 0 → Asked false
+  unfolding eofGood
+  asked-eof h = rw h
+
+  -- but for a Literal, only Ident and Label have a text of their own
   pub asked-name : 38 ≤ kind → kind < 40 → extra ≡ 0 → Asked (ltb 0 (length (part text start end)))
   unfolding eofGood contentsGood textGood extraGood
   asked-name h k e =
@@ -253,7 +269,7 @@ module _ (words : List ℕ) (last : LastKept words) (i : ℕ) (h : i < tokenCoun
       (λ (more : i + 1 < tokenCount words). kept-some words (tokenCount words - (i + 1)) (i + 1) (tokenCount words - 1) (omega arith) (omega arith) (last (tokenCount words - 1) (omega arith)))
       (eq-or-lt-of-le (omega arith))
 
-some-tokens : (text words : List ℕ) → wholeGood text words ≡ true → 0 < tokenCount words
+pub some-tokens : (text words : List ℕ) → wholeGood text words ≡ true → 0 < tokenCount words
 unfolding wholeGood
 some-tokens text words e =
     ltb-true _ _
@@ -287,3 +303,271 @@ file-not-31 text words room e =
     let told = rw e at (door-means text words 0 room) in
     let some = kept-not-empty text words (told .0) in
     omega arith
+
+-- ---- the walk that tests and counts
+
+-- the kept count where no token is bad; 0 where one is
+abbrev pub countGood : List ℕ → List ℕ → ℕ
+countGood text words = cond (ltb (firstBad text words) (tokenCount words)) 0 (length (keptOf words))
+
+-- token number i, the last one or not, is as it should be, but that it may end behind the text
+pub record Sound (text words : List ℕ) (last : Bool) (i : ℕ) : Type 0 where
+  pub behind : prevEnd words i ≤ startOf words i
+  pub range : startOf words i ≤ endOf words i
+  pub asked : (ltb (kindOf words i) kinds && eofGood last (kindOf words i) && contentsGood text (kindOf words i) (startOf words i) (endOf words i) (extraOf words i)) ≡ true
+
+-- a range's test and what it says
+range-says : (size prev start end : ℕ) → rangeGood size prev start end ≡ true → (prev ≤ start) × (start ≤ end) × (end ≤ size)
+unfolding rangeGood
+range-says size prev start end e =
+    let two = and-left (leb prev start && leb start end) (leb end size) e in
+    (leb-true _ _ (and-left (leb prev start) (leb start end) two), leb-true _ _ (and-right (leb prev start) (leb start end) two), leb-true _ _ (and-right (leb prev start && leb start end) (leb end size) e))
+
+range-holds : (size prev start end : ℕ) → prev ≤ start → start ≤ end → end ≤ size → rangeGood size prev start end ≡ true
+unfolding rangeGood
+range-holds size prev start end a b h = rw (le-leb _ _ a, le-leb _ _ b, le-leb _ _ h)
+
+-- the second of four tests that hold, and the others
+second-of-four : (a r e d : Bool) → (a && r && e && d) ≡ true → (r ≡ true) × ((a && e && d) ≡ true)
+second-of-four true true e d h = (refl, h)
+second-of-four true false e d h = absurd (false≢true h)
+second-of-four false r e d h = absurd (false≢true h)
+
+-- a good token is sound and ends in the text, and the other way round
+good-sound : (text words : List ℕ) (i : ℕ) → good text words i ≡ true → Sound text words (eqb (i + 1) (tokenCount words)) i × (endOf words i ≤ length text)
+unfolding good goodAfter
+good-sound text words i g =
+    let kind = kindOf words i in
+    let start = startOf words i in
+    let end = endOf words i in
+    let asked = contentsGood text kind start end (extraOf words i) in
+    let both = second-of-four (ltb kind kinds) (rangeGood (length text) (prevEnd words i) start end) (eofGood (eqb (i + 1) (tokenCount words)) kind) asked g in
+    let range = range-says (length text) (prevEnd words i) start end (both .0) in
+    (record { behind = range .0; range = range .1; asked = both .1 }, range .2)
+
+sound-good : (text words : List ℕ) (i : ℕ) → Sound text words (eqb (i + 1) (tokenCount words)) i → endOf words i ≤ length text → good text words i ≡ true
+unfolding good goodAfter
+sound-good text words i s h = rw (range-holds (length text) (prevEnd words i) (startOf words i) (endOf words i) (s .behind) (s .range) h, and-true) (s .asked)
+
+-- the ends only grow
+ends-grow : (text words : List ℕ) (i : ℕ) → ((j : ℕ) → j < i → Sound text words false j) → (j : ℕ) → j < i → endOf words j ≤ prevEnd words i
+unfolding prevEnd
+ends-grow text words zero each j h = absurd (none j h)
+  where
+    none : (j : ℕ) → j < 0 → ⊥
+    none j h = omega arith
+ends-grow text words (suc i) each j h = go (ends-grow text words i (λ k b. each k (omega arith))) (each i (omega arith))
+  where
+    go : ((j : ℕ) → j < i → endOf words j ≤ prevEnd words i) → Sound text words false i → endOf words j ≤ endOf words i
+    go before s =
+        ⊎-elim (λ (same : j ≡ i). rw same (omega arith)) (λ (earlier : j < i). omega (arith, before j earlier, s .behind, s .range))
+        (eq-or-lt-of-le (omega arith))
+
+-- one is bad: nothing is counted
+none-counted : (text words : List ℕ) (i : ℕ) → i < tokenCount words → (good text words i ≡ true → ⊥) → 0 ≡ countGood text words
+none-counted text words i h bad =
+    ⊎-elim
+    (λ (b : firstBad text words < tokenCount words). rw (lt-ltb _ _ b))
+    (λ (b : tokenCount words ≤ firstBad text words). absurd (bad (first-bad text words .before i (omega arith) (omega arith))))
+    (lt-or-le (firstBad text words) (tokenCount words))
+
+-- none is bad: the kept ones are counted
+all-counted : (text words : List ℕ) → WellFormed text words → length (keptOf words) ≡ countGood text words
+all-counted text words f =
+    ⊎-elim
+    (λ (b : firstBad text words < tokenCount words). absurd (unformed text words b f))
+    (λ (b : tokenCount words ≤ firstBad text words). rw (le-ltb _ _ b))
+    (lt-or-le (firstBad text words) (tokenCount words))
+
+-- the walk stands at word `at`, where token number i begins: the tokens before it are sound, and the kept ones of them are counted, and the last one with them
+pub record Walked (text words : List ℕ) (count prev at : ℕ) : Type 0 where
+  pub i : ℕ
+  pub place : i * 4 ≡ at
+  pub inside : i < tokenCount words
+  pub prev-is : prev ≡ prevEnd words i
+  pub few : count ≤ i + 1
+  pub counts : count + length (keptFrom words (tokenCount words - i) i) ≡ 1 + length (keptOf words)
+  pub each : (j : ℕ) → j < i → Sound text words false j
+
+-- the words of a list that is good as a whole are four a token
+whole-words : (text words : List ℕ) → wholeGood text words ≡ true → length words ≡ tokenCount words * 4
+unfolding wholeGood
+whole-words text words e =
+    let size = leb (length text) 1048576 in
+    let four = eqb (length words % 4) 0 in
+    let some = ltb 0 (tokenCount words) in
+    let whole = eqb-true (length words % 4) 0 (and-right size four (and-left (size && four) some (and-left (size && four && some) (leb (tokenCount words) 65536) e))) in
+    omega arith
+
+module _ (text words : List ℕ) (whole : wholeGood text words ≡ true) where
+  -- before the first token
+  pub walk-start : Walked text words 1 0 0
+  unfolding prevEnd keptOf
+  walk-start =
+      record {
+        i = 0;
+        place = refl;
+        inside = some-tokens text words whole;
+        prev-is = refl;
+        few = omega arith;
+        counts = rw sub-zero;
+        each = λ j h. absurd (none j h);
+      }
+    where
+      none : (j : ℕ) → j < 0 → ⊥
+      none j h = omega arith
+
+  module _ {count prev at : ℕ} (w : Walked text words count prev at) where
+    -- what the token at which the walk stands is asked, as the last one or as another
+    abbrev Ask : Bool → Bool → Type 0
+    Ask last b = (ltb (getD words at 0) kinds && eofGood last (getD words at 0) && contentsGood text (getD words at 0) (getD words (at + 1) 0) (getD words (at + 2) 0) (getD words (at + 3) 0)) ≡ b
+
+    -- the place tells whether it is the last one
+    not-last : at < length words - 4 → w .i + 1 < tokenCount words
+    not-last h = omega (arith, w .place, whole-words text words whole)
+
+    is-last : length words - 4 ≤ at → w .i + 1 ≡ tokenCount words
+    is-last h = omega (arith, w .place, w .inside, whole-words text words whole)
+
+    -- it starts before the one before it ends
+    pub starts-early : getD words (at + 1) 0 < prev → 0 ≡ countGood text words
+    starts-early h =
+        let h′ : startOf words (w .i) < prev = rw (w .place) h in
+        none-counted text words (w .i) (w .inside) (λ g. omega (arith, h′, w .prev-is, good-sound text words (w .i) g .0 .behind))
+
+    -- it ends before its start
+    pub ends-early : getD words (at + 2) 0 < getD words (at + 1) 0 → 0 ≡ countGood text words
+    ends-early h =
+        let h′ : endOf words (w .i) < startOf words (w .i) = rw (w .place) h in
+        none-counted text words (w .i) (w .inside) (λ g. omega (arith, h′, good-sound text words (w .i) g .0 .range))
+
+    -- it is not the last one, and its kind, text or extra is not as it should be
+    pub asked-wrong : at < length words - 4 → Ask false false → 0 ≡ countGood text words
+    asked-wrong b h =
+        none-counted text words (w .i) (w .inside)
+        (λ g.
+        let yes : Ask false true = rw (ne-eqb (w .i + 1) (tokenCount words) (λ e. omega (arith, e, not-last b)), w .place) at (good-sound text words (w .i) g .0 .asked) in
+        true≢false (sym yes ∙ h))
+
+    -- its range is not as it should be
+    pub range-wrong : rangeGood (length text) prev (getD words (at + 1) 0) (getD words (at + 2) 0) ≡ false → 0 ≡ countGood text words
+    range-wrong h =
+        none-counted text words (w .i) (w .inside)
+        (λ g.
+        let s = good-sound text words (w .i) g in
+        let yes = range-holds (length text) (prevEnd words (w .i)) (startOf words (w .i)) (endOf words (w .i)) (s .0 .behind) (s .0 .range) (s .1) in
+        true≢false (sym (rw (← w .prev-is, w .place) at yes) ∙ h))
+
+    -- it is the last one, and no Eof or one with an extra
+    pub last-wrong : length words - 4 ≤ at → (eqb (getD words at 0) Eof && eqb (getD words (at + 3) 0) 0) ≡ false → 0 ≡ countGood text words
+    last-wrong b h =
+        none-counted text words (w .i) (w .inside)
+        (λ g.
+        let yes : Ask true true = rw (eq-eqb (w .i + 1) (tokenCount words) (is-last b), w .place) at (good-sound text words (w .i) g .0 .asked) in
+        true≢false (sym yes ∙ sym (asked-last text (getD words at 0) (getD words (at + 1) 0) (getD words (at + 2) 0) (getD words (at + 3) 0)) ∙ h))
+
+    -- it is not the last one, and sound: on to the next
+    pub walk-on : at < length words - 4 → prev ≤ getD words (at + 1) 0 → getD words (at + 1) 0 ≤ getD words (at + 2) 0 → Ask false true → Walked text words (count + cond (dropped (getD words at 0)) 0 1) (getD words (at + 2) 0) (at + 4)
+    walk-on b from to asked =
+        let step = rw (w .place) at (kept-count words (tokenCount words) (w .i) (w .inside)) in
+        let end : endOf words (w .i) ≡ getD words (at + 2) 0 = rw (w .place) in
+        let here : Sound text words false (w .i) = record { behind = rw (← w .prev-is, w .place) from; range = rw (w .place) to; asked = rw (w .place) asked } in
+        record {
+          i = w .i + 1;
+          place = omega (arith, w .place);
+          inside = not-last b;
+          prev-is = sym end ∙ prev-next words (w .i);
+          few = omega (arith, w .few, one-most (dropped (getD words at 0)));
+          counts = omega (arith, w .counts, step);
+          each = λ j h. ⊎-elim (λ (same : j ≡ w .i). rw same here) (λ (earlier : j < w .i). w .each j earlier) (eq-or-lt-of-le (omega arith));
+        }
+
+    -- it is the last one, sound, and ends in the text: all are good, since all end in the text
+    all-good : length words - 4 ≤ at → Sound text words true (w .i) → endOf words (w .i) ≤ length text → WellFormed text words
+    all-good b here end =
+        record { whole = whole; each = λ j h. ⊎-elim (λ (same : j ≡ w .i). rw same last) (λ (earlier : j < w .i). before j earlier) (eq-or-lt-of-le (omega (arith, is-last b))) }
+      where
+        before : (j : ℕ) → j < w .i → good text words j ≡ true
+        before j h =
+            sound-good text words j
+            (rw (ne-eqb (j + 1) (tokenCount words) (λ e. omega (arith, w .inside))) (w .each j h))
+            (omega (arith, ends-grow text words (w .i) (w .each) j h))
+
+        last : good text words (w .i) ≡ true
+        last = sound-good text words (w .i) (rw (eq-eqb (w .i + 1) (tokenCount words) (is-last b)) here) end
+
+    -- so that what is counted is the kept count
+    pub walk-end : length words - 4 ≤ at → rangeGood (length text) prev (getD words (at + 1) 0) (getD words (at + 2) 0) ≡ true → (eqb (getD words at 0) Eof && eqb (getD words (at + 3) 0) 0) ≡ true → count ≡ countGood text words
+    walk-end b range last =
+        let said = range-says (length text) prev (getD words (at + 1) 0) (getD words (at + 2) 0) range in
+        let asked = sym (asked-last text (getD words at 0) (getD words (at + 1) 0) (getD words (at + 2) 0) (getD words (at + 3) 0)) ∙ last in
+        let here : Sound text words true (w .i) = record { behind = rw (← w .prev-is, w .place) (said .0); range = rw (w .place) (said .1); asked = rw (w .place) asked } in
+        let all = all-good b here (rw (w .place) (said .2)) in
+        let one = rw (last-kept text words all (w .i) (is-last b)) at (kept-count words (tokenCount words) (w .i) (w .inside)) in
+        let none = ap length (kept-none words (tokenCount words) (w .i + 1) (omega (arith, is-last b))) in
+        let counted : count ≡ length (keptOf words) = omega (arith, one, none, w .counts) in
+        counted ∙ all-counted text words all
+
+-- ---- what the count says
+
+-- a list good as a whole of which none is counted has a bad token
+pub none-says : (text words : List ℕ) {r : ℕ} → wholeGood text words ≡ true → r ≡ countGood text words → r ≡ 0 → ltb (firstBad text words) (tokenCount words) ≡ true
+none-says text words whole e z =
+    ⊎-elim
+    (λ (b : firstBad text words < tokenCount words). lt-ltb _ _ b)
+    (λ (b : tokenCount words ≤ firstBad text words). absurd (clash (formed text words whole b)))
+    (lt-or-le (firstBad text words) (tokenCount words))
+  where
+    clash : WellFormed text words → ⊥
+    clash f =
+        let some = kept-not-empty text words f in
+        let none : 0 ≡ length (keptOf words) = sym z ∙ e ∙ sym (all-counted text words f) in
+        omega arith
+
+-- where some are counted, no token is bad, and the count is the kept count
+pub some-says : (text words : List ℕ) {r : ℕ} → r ≡ countGood text words → (r ≡ 0 → ⊥) → (ltb (firstBad text words) (tokenCount words) ≡ false) × (r ≡ length (keptOf words))
+some-says text words {r} e some = go (ltb (firstBad text words) (tokenCount words)) refl
+  where
+    go : (t : Bool) → ltb (firstBad text words) (tokenCount words) ≡ t → (ltb (firstBad text words) (tokenCount words) ≡ false) × (r ≡ length (keptOf words))
+    go true b = absurd (some (rw b at e))
+    go false b = (b, rw b at e)
+
+-- ---- all numbers
+
+-- one number written: the rest is still to come
+pub numbers-turn : (t : List ℕ) (n i : ℕ) → i < n → sets (set t i i) (i + 1) (numbers (i + 1) (n - (i + 1))) ≡ sets t i (numbers i (n - i))
+unfolding numbers
+numbers-turn t n i h = rw (left-step n i h, add-one)
+
+-- none is left
+pub numbers-none : (t : List ℕ) (n i : ℕ) → n ≤ i → sets t i (numbers i (n - i)) ≡ t
+unfolding numbers
+numbers-none t n i h = rw (left-none n i h)
+
+-- no more are kept than there are
+pub kept-few : (words : List ℕ) (left i : ℕ) → length (keptFrom words left i) ≤ left
+unfolding keptFrom
+kept-few words zero i = omega arith
+kept-few words (suc left) i = go (dropped (kindOf words i)) (kept-few words left (i + 1))
+  where
+    go : (b : Bool) → length (keptFrom words left (i + 1)) ≤ left → length (keepUnless b i (keptFrom words left (i + 1))) ≤ suc left
+    go true h = omega arith
+    go false h = omega arith
+
+-- where as many are kept as there are, the kept ones are all numbers
+kept-all : (words : List ℕ) (left i : ℕ) → length (keptFrom words left i) ≡ left → keptFrom words left i ≡ numbers i left
+unfolding keptFrom numbers
+kept-all words zero i e = refl
+kept-all words (suc left) i e = go (dropped (kindOf words i)) e (kept-few words left (i + 1)) (kept-all words left (i + 1))
+  where
+    go : (b : Bool) → length (keepUnless b i (keptFrom words left (i + 1))) ≡ suc left → length (keptFrom words left (i + 1)) ≤ left → (length (keptFrom words left (i + 1)) ≡ left → keptFrom words left (i + 1) ≡ numbers (i + 1) left) → keepUnless b i (keptFrom words left (i + 1)) ≡ i ∷ numbers (i + 1) left
+    go true e few rest = absurd (clash e few)
+      where
+        clash : {k : ℕ} → k ≡ suc left → k ≤ left → ⊥
+        clash e h = omega arith
+    go false e few rest = ap (λ (xs : List ℕ). i ∷ xs) (rest (omega arith))
+
+-- the kept list of a list of which every token is kept
+pub kept-is-all : (words : List ℕ) {n : ℕ} → n ≡ length (keptOf words) → n ≡ tokenCount words → numbers 0 n ≡ keptOf words
+unfolding keptOf
+kept-is-all words e all = ap (numbers 0) all ∙ sym (kept-all words (tokenCount words) 0 (sym e ∙ all))

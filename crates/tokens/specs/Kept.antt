@@ -25,6 +25,11 @@ keptFrom words (suc left) i = keepUnless (dropped (kindOf words i)) i (keptFrom 
 unfoldable pub keptOf : List ℕ → List ℕ
 keptOf words = keptFrom words (tokenCount words) 0
 
+-- so many numbers from i on: what is kept of tokens of which none is dropped
+unfoldable pub numbers : ℕ → ℕ → List ℕ
+numbers i zero = []
+numbers i (suc left) = i ∷ numbers (i + 1) left
+
 -- the last token is kept, as Eof is
 abbrev pub LastKept : List ℕ → Type 0
 LastKept words = (i : ℕ) → i + 1 ≡ tokenCount words → dropped (kindOf words i) ≡ false

@@ -3,14 +3,14 @@ use crate::literal::is_literal;
 use crate::token::part_of;
 ghost use mathlib.Core.Path.{_≡_};
 ghost use Prim.Native.Nat.{_<_, _≤_};
-ghost use mathlib.Core.Bool.{false, cond, _&&_};
+ghost use mathlib.Core.Bool.{true, false, cond, _&&_};
 ghost use lib.Dec.{ltb, eqb};
 ghost use lib.ListN.{length};
 ghost use lib.Seq.{sets};
 ghost use Rattle.tokens.specs.Kind.{kinds, Eof};
 ghost use Rattle.tokens.specs.Token.{tokenCount};
 ghost use Rattle.tokens.specs.WellFormed.{rangeGood, eofGood, contentsGood, wholeGood, goodAfter, firstBad};
-ghost use Rattle.tokens.specs.Kept.{dropped, keptOf, LastKept};
+ghost use Rattle.tokens.specs.Kept.{dropped, keptOf, numbers, LastKept};
 ghost use Rattle.tokens.specs.Door.{door, Prepared};
 
 // What the door answers: a refusal with its cursor, or the kept count.
@@ -53,11 +53,8 @@ fn last_good(kind: u32, extra: u32) -> bool
 fn contents_good(text: &[u8], kind: u32, start: u32, end: u32, extra: u32) -> bool
     ensures { λ r. ⌜ r ≡ (ltb kind kinds && eofGood false kind && contentsGood (now (text .entry)) kind start end extra) ⌝ }
 {
-    if kind < 38 {
-        if extra != 0 {
-            return false;
-        }
-        return kind != 0;
+    if (kind != 0) & (kind < 38) {
+        return extra == 0;
     }
     if kind == 41 {
         return extra <= 255;
@@ -71,6 +68,9 @@ fn contents_good(text: &[u8], kind: u32, start: u32, end: u32, extra: u32) -> bo
     let part = part_of(text, start as usize, end as usize);
     if kind == 40 {
         return is_literal(part);
+    }
+    if kind == 0 {
+        return false;
     }
     if kind < 40 {
         return 0 < part.len();
@@ -147,17 +147,39 @@ fn kept_one(kind: u32) -> usize
     if is_dropped(kind) { 0 } else { 1 }
 }
 
-// How many tokens are kept: known before anything is written.
-fn count_kept(tokens: &[u32]) -> usize
-    ensures { λ r. ⌜ r ≡ length (keptOf (now (tokens .entry))) ⌝ }
+// The kept count of a list in which no token is bad; 0 where one is. That a token ends inside the text is asked of the last one alone, since every token ends
+// at or behind the end of the one before it; which token is the first bad one is not asked here.
+fn count_good(text: &[u8], tokens: &[u32]) -> usize
+    requires { ⌜ wholeGood (now text) (now tokens) ≡ true ⌝ }
+    ensures { λ r. ⌜ r ≡ cond (ltb (firstBad (now (text .entry)) (now (tokens .entry))) (tokenCount (now (tokens .entry)))) 0 (length (keptOf (now (tokens .entry)))) ⌝ }
 {
-    let n = tokens.len() / 4;
-    let mut count = 0;
-    let mut i = 0;
-    while i < n {
+    let last = tokens.len() - 4;
+    let mut count = 1;
+    let mut prev: u32 = 0;
+    let mut at = 0;
+    while at < last {
+        let kind = tokens[at];
+        let start = tokens[at + 1];
+        let end = tokens[at + 2];
+        if start < prev {
+            return 0;
+        }
+        if end < start {
+            return 0;
+        }
+        if !contents_good(text, kind, start, end, tokens[at + 3]) {
+            return 0;
+        }
         // no branch: whether a token is kept can't be foreseen
-        count += kept_one(tokens[i * 4]);
-        i += 1;
+        count += kept_one(kind);
+        prev = end;
+        at += 4;
+    }
+    if !range_good(text.len(), prev, tokens[at + 1], tokens[at + 2]) {
+        return 0;
+    }
+    if !last_good(tokens[at], tokens[at + 3]) {
+        return 0;
     }
     count
 }
@@ -180,6 +202,33 @@ fn keep(tokens: &[u32], kept: &mut [u32])
     }
 }
 
+// The numbers of n tokens of which none is dropped.
+fn keep_all(kept: &mut [u32], n: usize)
+    requires { ⌜ (n ≤ 65536) × (n ≤ length (now kept)) ⌝ }
+    ensures { λ _. ⌜ now (kept .exit) ≡ sets (now (kept .entry)) 0 (numbers 0 n) ⌝ }
+{
+    let mut i = 0;
+    while i < n {
+        kept[i] = i as u32;
+        i += 1;
+    }
+}
+
+// Writes the kept list of `count` numbers: without a look at the tokens where that is all of them.
+fn write_kept(tokens: &[u32], kept: &mut [u32], count: usize)
+    requires { ⌜ tokenCount (now tokens) ≤ 65536 ⌝ }
+    requires { ⌜ count ≡ length (keptOf (now tokens)) ⌝ }
+    requires { ⌜ count ≤ length (now kept) ⌝ }
+    requires { ⌜ LastKept (now tokens) ⌝ }
+    ensures { λ _. ⌜ now (kept .exit) ≡ sets (now (kept .entry)) 0 (keptOf (now (tokens .entry))) ⌝ }
+{
+    if count == tokens.len() / 4 {
+        keep_all(kept, count);
+    } else {
+        keep(tokens, kept);
+    }
+}
+
 // The door's answer for a kept list of `room` words; nothing is written.
 fn examine(text: &[u8], tokens: &[u32], start: usize, room: usize) -> Door
     ensures { λ r. ⌜ r ≡ door (now (text .entry)) (now (tokens .entry)) start room ⌝ }
@@ -187,11 +236,10 @@ fn examine(text: &[u8], tokens: &[u32], start: usize, room: usize) -> Door
     if !whole_good(text, tokens) {
         return Door::NotWellFormed(0);
     }
-    let bad = first_bad(text, tokens);
-    if bad < tokens.len() / 4 {
-        return Door::NotWellFormed(bad);
+    let count = count_good(text, tokens);
+    if count == 0 {
+        return Door::NotWellFormed(first_bad(text, tokens));
     }
-    let count = count_kept(tokens);
     if room < count {
         return Door::KeptTooShort(count);
     }
@@ -210,7 +258,7 @@ pub fn prepare(text: &[u8], tokens: &[u32], start: usize, kept: &mut [u32]) -> D
         Door::KeptTooShort(count) => Door::KeptTooShort(count),
         Door::StartOutside(at) => Door::StartOutside(at),
         Door::Ready(count) => {
-            keep(tokens, kept);
+            write_kept(tokens, kept, count);
             Door::Ready(count)
         }
     }

@@ -19,11 +19,11 @@ enum-known-at-2 c = search needs
 enum-known-count-2 : tie.Need-enum-known-count-2
 enum-known-count-2 c = search needs
 
-keep-requires : tie.Need-keep-requires
-keep-requires c κs =
+write-kept-requires : tie.Need-write-kept-requires
+write-kept-requires c κs =
     let at = c .before .before .before .before .before .before .before .before .args in
     let through = ready (at .text .now) (at .tokens .now) _ _ (sym (c .before .before .before .before .examine .ensures) ∙ c .before .before .count2 .given .1) in
-    (through .few, (rw (through .count) (through .room-enough), last-kept (at .text .now) (at .tokens .now) (through .formed)))
+    (through .few, (sym (through .count), (through .room-enough, last-kept (at .text .now) (at .tokens .now) (through .formed))))
 
 returns : tie.Need-returns
 returns c = record { answer = sym (c .before .at .given .1) ∙ c .before .before .before .examine .ensures; list = refl }
@@ -38,7 +38,7 @@ same-length : tie.Need-same-length
 same-length c = search needs
 
 returns-4 : tie.Need-returns-4
-returns-4 c = record { answer = sym (c .before .before .before .before .before .count2 .given .1) ∙ c .before .before .before .before .before .before .before .examine .ensures; list = c .before .before .keep .ensures }
+returns-4 c = record { answer = sym (c .before .before .before .before .before .count2 .given .1) ∙ c .before .before .before .before .before .before .before .examine .ensures; list = c .before .before .write-kept .ensures }
 
 pub prepare-spec : {M : Type 1} → statement M
 prepare-spec =
@@ -49,7 +49,7 @@ prepare-spec =
     enum-known-count
     enum-known-at-2
     enum-known-count-2
-    keep-requires
+    write-kept-requires
     returns
     returns-2
     returns-3
