@@ -4,7 +4,7 @@ use native.Mathlib.Nat.{add-zero}
 use native.Mathlib.Numerals.{add-one, add-two}
 use native.Mathlib.Omega.{arith}
 use mathlib.Core.Path.{_≡_, refl, sym, ap, _∙_}
-use mathlib.Core.Bool.{Bool, true, false, cond}
+use mathlib.Core.Bool.{Bool, false, cond}
 use mathlib.Core.List.{List, [], _∷_, _++_, map, append-nil, map-append}
 use borrow.Author.Tests.{eq-eqb, ne-eqb}
 use lib.ListN.{length, drop, length-append, length-map}
@@ -32,7 +32,7 @@ use Rattle.definitions.specs.declared.head.Head.the-variants as heads
 use Rattle.definitions.specs.declared.signature.Signature.{Signature}
 use Rattle.definitions.specs.declared.signature.Behind.{Behind}
 use Rattle.definitions.specs.declared.signature.Behind.the-variants as behinds
-use Rattle.definitions.specs.Answers.{Long, DefWithin, DefParsed}
+use Rattle.definitions.specs.Answers.{DefParsed}
 use Rattle.definitions.specs.Pieces.{Small, RefusedRead, Headed, Bodiless, Signed, SignatureRead, listNumber, listForm, listRest, TypeRead, outputsRest, Outputs, OutputsRead, Fitting, SignatureFits, SignaturePut}
 use Rattle.definitions.specs.declared.constant.ConstVal.{ConstVal}
 use Rattle.definitions.specs.declared.constant.ConstVal.the-variants as constvals
@@ -43,8 +43,8 @@ use Rattle.statements.proofs.At.{token-here, choose-none, NoneOf, look-table, e
 -- ---- what a reading is, as the code answers it
 
 -- a refused reading
-pub refused-parsed : {all : List Token} {p i a size c q : ℕ} {read : Res Definition} {de st ar de′ st′ ar′ : List ℕ} {r : DefRead} → RefusedRead read c q → r ≡ defs.Refused c q
-    → DefParsed all p i a size read de st ar r de′ st′ ar′
+pub refused-parsed : {least : ℕ} {all : List Token} {p i a size c q : ℕ} {read : Res Definition} {de st ar de′ st′ ar′ : List ℕ} {r : DefRead} → RefusedRead read c q → r ≡ defs.Refused c q
+    → DefParsed least all p i a size read de st ar r de′ st′ ar′
 refused-parsed {c = c} {q = q} h e =
     rw (h .is, e, h .numbered, h .cursor) (record { is = refl; definitionTable = tt; statementTable = tt; argumentTable = tt; name = tt; within = tt })
 
@@ -71,7 +71,7 @@ unfolding formArguments
 arguments-are f b = rw (length-append, length-append, b .inputs, b .outputs, b .inner, add-zero)
 
 -- a definition without statements
-pub bodiless-parsed : {all : List Token} {p i a size n kind ins outs x y name first e : ℕ} {read : Res Definition} {de st ar de′ ar′ : List ℕ} {r : DefRead} {form : Form}
+pub bodiless-parsed : {least : ℕ} {all : List Token} {p i a size n kind ins outs x y name first e : ℕ} {read : Res Definition} {de st ar de′ ar′ : List ℕ} {r : DefRead} {form : Form}
     → read ≡ got (record { first = first; end = e; name = name; token = tokenAt all name; form = form }) n
     → Bodiless form ins outs x y
     → kindNumber form ≡ kind
@@ -82,7 +82,7 @@ pub bodiless-parsed : {all : List Token} {p i a size n kind ins outs x y name fi
     → p < e
     → e ≤ size
     → ins + outs + p ≤ e
-    → DefParsed all p i a size read de st ar r de′ st ar′
+    → DefParsed least all p i a size read de st ar r de′ st ar′
 unfolding putAll
 bodiless-parsed {all} {i = i} {a = a} {name = name} {first = first} {e = e} {de = de} {st = st} {form = form} is b k ends r-is de-is ar-is low high few =
     rw (is, r-is)
@@ -146,7 +146,7 @@ module _ (all : List Token) (k first p : ℕ) (rest : ℕ → List Token → Res
     pub signature-parsed : (kind i a : ℕ) {de st ar de′ ar′ : List ℕ} {r : DefRead} (b : Behind)
         → SignatureRead kind (p + 2) size (rest (p + 2) (drop (p + 2) all)) ar b ar′
         → SignaturePut kind first (p + 1) i a b de r de′
-        → DefParsed all p i a size (expect k (plain 1) (λ t. named first rest) p (drop p all)) de st ar r de′ st ar′
+        → DefParsed 7 all p i a size (expect k (plain 1) (λ t. named first rest) p (drop p all)) de st ar r de′ st ar′
     signature-parsed kind i a (behinds.Signed s) g w =
         bodiless-parsed {n = 2 + g .tokens} (named-got (g .form) (g .tokens) (g .is) ∙ rw (← g .ends)) (g .says) (g .numbered) (omega (arith, g .ends)) (w .is) (w .written) (g .records) (omega (arith, g .further)) (g .inside) (omega (arith, g .few))
     signature-parsed kind i a (behinds.Refused c q) g w = refused-parsed (refused-same g named-bad) w
@@ -411,7 +411,7 @@ module _ (all : List Token) (p : ℕ) where
 
   pub import-parsed : {i a size : ℕ} {de st ar de′ : List ℕ} → tokenAt all p .kind ≡ Include → tokenAt all (suc p) .kind ≡ Str → p + 2 ≤ size
       → de′ ≡ put 12 de 0 (1 ∷ (p + 1) ∷ p ∷ (p + 2) ∷ a ∷ 0 ∷ (a + 0) ∷ 0 ∷ i ∷ 0 ∷ 0 ∷ 0 ∷ [])
-      → DefParsed all p i a size (parseImports p (drop p all)) de st ar (defs.Done (record { at = p + 2; statements = 0; arguments = 0; name = p + 1; named = false })) de′ st ar
+      → DefParsed 8 all p i a size (parseImports p (drop p all)) de st ar (defs.Done (record { at = p + 2; statements = 0; arguments = 0; name = p + 1; named = false })) de′ st ar
   unfolding formCount formStatements formArguments putAll
   import-parsed e h inside written =
       bodiless-parsed (imported e h)
@@ -491,7 +491,7 @@ constant-says v e = record { none = refl; statements = λ i m. refl; noMacro = r
 
 module _ {all : List Token} {first p i a size : ℕ} {read : Res Definition} {de st ar de′ : List ℕ} (d : ConstantDefinition) where
   constant-from : (x y : ℕ) → valueWords (valueOf (d .value)) ≡ x ∷ y ∷ [] → ConstantGot all first p size read d → de′ ≡ put 12 de 0 (constantWords i a d)
-      → DefParsed all p i a size read de st ar (defs.Done (record { at = d .end; statements = 0; arguments = 0; name = d .name; named = false })) de′ st ar
+      → DefParsed 7 all p i a size read de st ar (defs.Done (record { at = d .end; statements = 0; arguments = 0; name = d .name; named = false })) de′ st ar
   unfolding formArguments putAll
   constant-from x y e c written =
       bodiless-parsed (c .is) (constant-says (d .value) e) refl (c .ends) refl
@@ -499,11 +499,11 @@ module _ {all : List Token} {first p i a size : ℕ} {read : Res Definition} {de
       refl (omega (arith, c .ends)) (c .inside) (omega (arith, c .ends))
 
   pub constant-parsed : ConstantGot all first p size read d → de′ ≡ put 12 de 0 (constantWords i a d)
-      → DefParsed all p i a size read de st ar (defs.Done (record { at = d .end; statements = 0; arguments = 0; name = d .name; named = false })) de′ st ar
+      → DefParsed 7 all p i a size read de st ar (defs.Done (record { at = d .end; statements = 0; arguments = 0; name = d .name; named = false })) de′ st ar
   constant-parsed = go (d .value) refl
     where
       go : (v : ConstVal) → d .value ≡ v → ConstantGot all first p size read d → de′ ≡ put 12 de 0 (constantWords i a d)
-          → DefParsed all p i a size read de st ar (defs.Done (record { at = d .end; statements = 0; arguments = 0; name = d .name; named = false })) de′ st ar
+          → DefParsed 7 all p i a size read de st ar (defs.Done (record { at = d .end; statements = 0; arguments = 0; name = d .name; named = false })) de′ st ar
       go (constvals.Literal q) e = constant-from 1 q (ap (λ v. valueWords (valueOf v)) e)
       go (constvals.FreeStoragePointer q) e = constant-from 2 q (ap (λ v. valueWords (valueOf v)) e)
 
@@ -534,26 +534,3 @@ module _ (all : List Token) (p : ℕ) where
       top-at Define e
       ∙ expect-yes p all Define (plain 1) (λ d. byKind (kindTable base p) (plain 2)) e
       ∙ ap (λ q. oneMore (byKind (kindTable base p) (plain 2) q (drop q all))) (sym (add-one p))
-
--- what was read one place behind p, from p on
-pub one-more : {all : List Token} {p i a size : ℕ} (read : Res Definition) {de st ar de′ st′ ar′ : List ℕ} {r : DefRead} → DefParsed all (p + 1) i a size read de st ar r de′ st′ ar′
-    → DefParsed all p i a size (oneMore read) de st ar r de′ st′ ar′
-one-more {p = p} {size = size} (got d n) {r = r} h =
-    let one : p + 1 + n ≡ p + suc n = omega arith in
-    record {
-      is = h .is ∙ found-same one refl refl refl refl;
-      definitionTable = h .definitionTable;
-      statementTable = h .statementTable;
-      argumentTable = h .argumentTable;
-      name = h .name;
-      within = nearer r (h .within);
-    }
-  where
-    longer : (b : Bool) (e : ℕ) → Long b (p + 1) e → Long b p e
-    longer true e h = omega arith
-    longer false e h = tt
-
-    nearer : (r : DefRead) → DefWithin (p + 1) size r → DefWithin p size r
-    nearer (defs.Done f) w = (omega arith, w .1, omega arith, omega arith, longer (f .named) (f .at) (w .4))
-    nearer (defs.Refused c q) w = tt
-one-more (bad y w) h = refused-parsed (record { why = y; place = w; is = refl; numbered = refl; cursor = refl }) (h .is)

@@ -39,7 +39,7 @@ pub added : (all : List Token) (p d i a size : ℕ) (read : Res Definition) (de 
     → x ≡ min (d * 12) (length de)
     → y ≡ min (i * 8) (length st)
     → z ≡ min (a * 7) (length ar)
-    → DefParsed all p i a size read (midOf x (length de - x) de) (midOf y (length st - y) st) (midOf z (length ar - z) ar) r de₁ st₁ ar₁
+    → DefParsed 8 all p i a size read (midOf x (length de - x) de) (midOf y (length st - y) st) (midOf z (length ar - z) ar) r de₁ st₁ ar₁
     → DefAdded all p d i a size read de st ar r (putMid x (length de - x) de de₁) (putMid y (length st - y) st st₁) (putMid z (length ar - z) ar ar₁)
 unfolding putAll
 added all p d i a size (got v k) de st ar r x y z de₁ st₁ ar₁ ex ey ez h =
@@ -183,7 +183,7 @@ module _ (all : List Token) (de st ar : List ℕ) (d i a : ℕ) (seen : List (Li
       other-found (got x k) f e h g n =
           let found : record { at = p + k; statements = formCount (x .form); arguments = length (formArguments (x .form)); name = x .name; named = isMacro (x .form) } ≡ f = cc (h .is) in
           let m : isMacro (x .form) ≡ false = ap (λ (f : Found). f .named) found ∙ n in
-          let bounds : DefWithin p size (defs.Done f) = rw g at (h .within) in
+          let bounds : DefWithin 8 p size (defs.Done f) = rw g at (h .within) in
           let more : p < p + k = rw (← found) at (bounds .0) in
           let step = goes x k (taken x k e (unnamed x m)) more in
           let same-seen : rememberName seen x ≡ seen = rw m in
@@ -199,7 +199,7 @@ module _ (all : List Token) (de st ar : List ℕ) (d i a : ℕ) (seen : List (Li
           let found : record { at = p + k; statements = formCount (x .form); arguments = length (formArguments (x .form)); name = x .name; named = isMacro (x .form) } ≡ f = cc (h .is) in
           let m : isMacro (x .form) ≡ true = ap (λ (f : Found). f .named) found ∙ n in
           let new : oneOf seen (tokenAt all (x .name) .text) ≡ false = rw (← found) at o in
-          let bounds : DefWithin p size (defs.Done f) = rw g at (h .within) in
+          let bounds : DefWithin 8 p size (defs.Done f) = rw g at (h .within) in
           let more : p < p + k = rw (← found) at (bounds .0) in
           let step = goes x k (taken x k e (repeats-is x m (h .name) new)) more in
           let all-seen : seen′ ≡ tokenAt all (x .name) .text ∷ seen = rw (← found) at s in
@@ -250,7 +250,7 @@ module _ (de st ar de′ st′ ar′ : List ℕ) where
 -- ---- room for names
 
 -- a local array of k zeros is room for n tokens
-pub roomy : (n k : ℕ) → n ≤ 3 * k → n ≤ 3 * length (replicate {A = ℕ} k 0)
+pub roomy : (n k : ℕ) → n ≤ 8 * k → n ≤ 8 * length (replicate {A = ℕ} k 0)
 roomy n k h = rw length-replicate h
 
 -- ---- the loop of parse
@@ -263,7 +263,7 @@ pub record Loop (text words kept de₀ st₀ ar₀ marks₀ places₀ hashes₀ 
   pub definitions : d ≤ p
   pub statements : i ≤ p
   pub arguments : a ≤ p
-  pub names : 3 * m ≤ p
+  pub names : 8 * m ≤ p
   pub same-definitions : length de ≡ length de₀
   pub same-statements : length st ≡ length st₀
   pub same-arguments : length ar ≡ length ar₀
@@ -329,7 +329,7 @@ module _ {text words kept de₀ st₀ ar₀ marks₀ places₀ hashes₀ de st a
         ∙ loop .ends)
 
     module _ (f : Found) (g : r ≡ defs.Done f) where
-      pub bounds : DefWithin p (length kept) (defs.Done f)
+      pub bounds : DefWithin 8 p (length kept) (defs.Done f)
       bounds = rw g at (turn .within)
 
       module _ (de-kept : length de′ ≡ length de) (st-kept : length st′ ≡ length st) (ar-kept : length ar′ ≡ length ar) where
@@ -364,7 +364,7 @@ module _ {text words kept de₀ st₀ ar₀ marks₀ places₀ hashes₀ de st a
             → Loop text words kept de₀ st₀ ar₀ marks₀ places₀ hashes₀ de′ st′ ar′ marks′ places′ hashes′ (f .at) (d + 1) (i + f .statements) (a + f .arguments) (m + 1)
         loop-macro n {b} {marks′} {places′} {hashes′} told new x y z =
             let noting : Noting false (view text words kept) (tokenAt (view text words kept) (f .name) .text) places m marks′ places′ hashes′ (suc m) = rw new at (told .then) in
-            let long : p + 3 ≤ f .at = rw n at (bounds .4) in
+            let long : p + 8 ≤ f .at = rw n at (bounds .4) in
             rw (add-one m)
             record {
               ends =

@@ -29,14 +29,14 @@ one-call {text} {words} {de = de} {st = st} {ar = ar} m n =
     )
 
 -- the promise of a definition's reader: the answer always
-module _ {all : List Token} {p i a size : ℕ} {de st ar : List ℕ} {r r′ : DefRead} {de₁ de₂ st₁ st₂ ar₁ ar₂ : List ℕ} where
-  pub one-definition : {read : Res Definition} → DefParsed all p i a size read de st ar r de₁ st₁ ar₁ → DefParsed all p i a size read de st ar r′ de₂ st₂ ar₂ → r ≡ r′
+module _ {least : ℕ} {all : List Token} {p i a size : ℕ} {de st ar : List ℕ} {r r′ : DefRead} {de₁ de₂ st₁ st₂ ar₁ ar₂ : List ℕ} where
+  pub one-definition : {read : Res Definition} → DefParsed least all p i a size read de st ar r de₁ st₁ ar₁ → DefParsed least all p i a size read de st ar r′ de₂ st₂ ar₂ → r ≡ r′
   one-definition m n = m .is ∙ sym (n .is)
 
   -- and the three tables where something is read; after a refusal only the entry says what they hold
   pub one-writing : {x : Definition} {k : ℕ}
-      → DefParsed all p i a size (got x k) de st ar r de₁ st₁ ar₁
-      → DefParsed all p i a size (got x k) de st ar r′ de₂ st₂ ar₂
+      → DefParsed least all p i a size (got x k) de st ar r de₁ st₁ ar₁
+      → DefParsed least all p i a size (got x k) de st ar r′ de₂ st₂ ar₂
       → (de₁ ≡ de₂) × (st₁ ≡ st₂) × (ar₁ ≡ ar₂)
   one-writing m n = (m .definitionTable ∙ sym (n .definitionTable), m .statementTable ∙ sym (n .statementTable), m .argumentTable ∙ sym (n .argumentTable))
 

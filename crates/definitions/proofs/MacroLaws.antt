@@ -1,5 +1,5 @@
 -- Laws of macros, fns and tests: Takes and Returns, the list and `=`, the body and the record. Assumes nothing.
-use Prim.Native.Nat.{ℕ, suc, _+_, _≤_, _<_}
+use Prim.Native.Nat.{ℕ, suc, _+_, _≤_, _<_, zero-le}
 use native.Mathlib.Nat.{add-zero, zero-add}
 use native.Mathlib.Omega.{arith}
 use mathlib.Core.Path.{_≡_, refl, sym, ap, _∙_}
@@ -11,13 +11,13 @@ use lib.Dec.{eqb}
 use lib.ListN.{length, drop, length-append, length-map}
 use Rattle.tokens.specs.Token.{Token, tokenAt}
 use Rattle.tokens.specs.Table.{putAll}
-use Rattle.tokens.specs.Kind.{Macro, Fn, Test, Takes, Returns, Assign}
+use Rattle.tokens.specs.Kind.{Macro, Fn, Test, Takes, Returns, Assign, OpenParen, CloseParen, OpenBrace, CloseBrace}
 use Rattle.tokens.proofs.Laws.{lt-or-le}
 use Rattle.tokens.proofs.TableLaws.{putAll-append}
 use Rattle.grammar.specs.Reading.{Argument, Reading}
 use Rattle.grammar.specs.Rules.{base}
 use Rattle.grammar.specs.Result.{plain, number, Res, got, bad, on, refuse, leave, stepped, oneMore, Step, choose, expect, counted, seq}
-use Rattle.grammar.specs.Reader.{nameArgument, bodyFrom}
+use Rattle.grammar.specs.Reader.{entries, closedList, nameArgument, items, groups, bodyFrom}
 use Rattle.grammar.specs.Typed.{singleNumber}
 use Rattle.grammar.specs.Records.{argumentRecord, allArguments, statementRecords, argumentRecords, statementCount, argumentCount}
 use Rattle.grammar.specs.FileReading.{MacroSort, theMacro, theFn, theTest, Form, aMacro, Definition}
@@ -33,11 +33,12 @@ use Rattle.statements.specs.declared.item.Items.the-variants as items
 use Rattle.definitions.specs.declared.record.DefRead.{DefRead}
 use Rattle.definitions.specs.declared.record.DefRead.the-variants as defs
 use Rattle.definitions.specs.declared.macros.Numbers.the-variants as numbers
-use Rattle.definitions.specs.Behind.{formed, behindName, RestParsed}
+use Rattle.definitions.specs.Answers.{DefParsed}
+use Rattle.definitions.specs.Behind.{formed, behindName}
 use Rattle.definitions.specs.Macros.{MacroKind, macroSort, NumberRead, numbersFrom, NumbersRead, headFrom, tailFrom, MacroPut, TailParsed}
 use Rattle.statements.proofs.At.{look-table, look-else, expect-yes, expect-no}
-use Rattle.definitions.proofs.Named.{rest-refused}
-use Rattle.definitions.proofs.Readers.{Stops, stops-here, as-stops, seq-stops, seq-at, seq-then-stops, seq-nothing, seq-same, seq-group, expect-group}
+use Rattle.definitions.proofs.Named.{refused}
+use Rattle.definitions.proofs.Readers.{Stops, stops-here, as-stops, seq-stops, seq-at, seq-then-stops, seq-nothing, seq-same, seq-group, expect-group, AtLeast, any-least, expect-least, seq-least}
 
 -- ---- a number that may be missing
 
@@ -319,6 +320,30 @@ head-group sort p ts =
     (λ args q us. expect-group Assign (plain 1) (λ a q ts. got args 0) (behindEquals sort) (λ a. behindEquals sort args) q us
     (λ t x vs. seq-nothing args (behindEquals sort) x vs))
 
+-- `{` and `}`
+body-least : AtLeast 2 (bodyFrom base)
+unfolding bodyFrom
+body-least =
+    expect-least 1 OpenBrace (plain 1) _ (λ o.
+    seq-least 0 1 (items true 5) _ (any-least (items true 5)) (λ is.
+    seq-least 0 1 (groups base) _ (any-least (groups base)) (λ gs. expect-least 0 CloseBrace (plain 5) _ (λ c p ts. zero-le))))
+
+-- `(` and `)`
+args-least : AtLeast 2 (parseArgs nameArgument)
+unfolding closedList
+args-least =
+    expect-least 1 OpenParen (plain 1) _ (λ o.
+    seq-least 0 1 (entries nameArgument) _ (any-least (entries nameArgument)) (λ es. expect-least 0 CloseParen (plain 1) _ (λ c p ts. zero-le)))
+
+-- behind its name a macro takes these and `=`
+macro-least : (sort : MacroSort) → AtLeast 5 (macroRest base sort)
+unfolding macroRest
+macro-least sort =
+    seq-least 2 3 (parseArgs nameArgument) _ args-least (λ args.
+    expect-least 2 Assign (plain 1) _ (λ a.
+    seq-least 0 2 (optional Takes singleNumber 0) _ (any-least (optional Takes singleNumber 0)) (λ takes.
+    seq-least 0 2 (optional Returns singleNumber 0) _ (any-least (optional Returns singleNumber 0)) (λ returns. seq-least 2 0 (bodyFrom base) _ body-least (λ r p ts. zero-le)))))
+
 which : (k : ℕ) → MacroKind k → (k ≡ 6) ⊎ ((k ≡ 7) ⊎ (k ≡ 8))
 which k h = ⊎-elim (λ (l : k < 7). inl (omega arith)) (λ (l : 7 ≤ k). inr (⊎-elim (λ (g : k < 8). inl (omega arith)) (λ (g : 8 ≤ k). inr (omega arith)) (lt-or-le k 8))) (lt-or-le k 7)
 
@@ -338,23 +363,23 @@ module _ (kind first name p : ℕ) (all : List Token) where
 
   module _ {i a size : ℕ} {de st ar ar₁ de′ st′ ar′ : List ℕ} where
     pub head-is-refused : (sort : MacroSort) {c q : ℕ} → ListRead 0 p size (headFrom p (drop p all)) ar (lists.Refused c q) ar₁
-        → RestParsed all p i a size (behindName first name all (macroRest base sort) p) de st ar (defs.Refused c q) de′ st′ ar′
+        → DefParsed 5 all p i a size (behindName first name all (macroRest base sort) p) de st ar (defs.Refused c q) de′ st′ ar′
     unfolding behindName
     head-is-refused sort h =
-        rest-refused
+        refused
         (seq-stops (macroRest base sort) (formed first name all) p (drop p all)
         (as-stops (sym (head-group sort p (drop p all))) (seq-stops headFrom (behindEquals sort) p (drop p all) (list-stops _ h))))
 
     -- the declared arguments come first, and the body's behind them
     pub macro-read : {n q : ℕ} {r : DefRead} → MacroKind kind → ListRead 0 p size (headFrom p (drop p all)) ar (lists.Done n q) ar₁
         → TailParsed kind first name n q i a size (tailFrom q (drop q all)) de st ar₁ r de′ st′ ar′
-        → RestParsed all p i a size (behindName first name all (macroRest base (macroSort kind)) p) de st ar r de′ st′ ar′
+        → DefParsed 5 all p i a size (behindName first name all (macroRest base (macroSort kind)) p) de st ar r de′ st′ ar′
     unfolding behindName definitionRecord formCount formArguments formStatements argumentCount argumentRecords
     macro-read {n} {q} {r} k h t = go (list-got _ h) (tailFrom q (drop q all)) refl t
       where
         go : ListGot p (headFrom p (drop p all)) ar n q ar₁ → (x : Res ((ℕ × ℕ) × Reading)) → tailFrom q (drop q all) ≡ x
             → TailParsed kind first name n q i a size x de st ar₁ r de′ st′ ar′
-            → RestParsed all p i a size (behindName first name all (macroRest base (macroSort kind)) p) de st ar r de′ st′ ar′
+            → DefParsed 5 all p i a size (behindName first name all (macroRest base (macroSort kind)) p) de st ar r de′ st′ ar′
         go g (got x j) e t =
             let w = h .within in
             let v = rw (t .is) at (t .within) in
@@ -364,7 +389,9 @@ module _ (kind first name p : ℕ) (all : List Token) where
             let end : q + j ≡ p + (m + (j + 0)) = omega (arith, g .ends) in
             let count : n + length (allArguments (x .1)) ≡ length (args ++ allArguments (x .1)) = rw (g .count) (sym (length-append args (allArguments (x .1)))) in
             let declared : n ≡ 0 + length (map argumentRecord args) = rw (zero-add, length-map) (g .count) in
-            rw (seq-at (macroRest base (macroSort kind)) (formed first name all) p all (parts-read (macroSort kind) args m q j x (g .is) (g .ends) e) refl)
+            let parts = parts-read (macroSort kind) args m q j x (g .is) (g .ends) e in
+            let long : 5 ≤ m + (j + 0) = rw parts at (macro-least (macroSort kind) p (drop p all)) in
+            rw (seq-at (macroRest base (macroSort kind)) (formed first name all) p all parts refl)
             (record {
               is = t .is ∙ rw (place, count) refl;
               definitionTable = t .definitionTable ∙ rw (end, g .count, sort-number kind k) refl;
@@ -376,11 +403,11 @@ module _ (kind first name p : ℕ) (all : List Token) where
                   ∙ sym (putAll-append 7 ar 0 (map argumentRecord args) (map argumentRecord (allArguments (x .1))))
                   ∙ ap (putAll 7 ar 0) (sym (map-append argumentRecord args (allArguments (x .1))));
               name = refl;
-              within = rw (t .is) (omega arith, omega arith, omega arith, omega arith);
+              within = rw (t .is) (omega arith, omega arith, omega arith, omega arith, omega (arith, g .ends));
             })
         go g (bad y w) e t =
             rw (t .is)
-            (rest-refused
+            (refused
             (seq-stops (macroRest base (macroSort kind)) (formed first name all) p (drop p all)
             (as-stops (sym (head-group (macroSort kind) p (drop p all)))
             (seq-then-stops headFrom (behindEquals (macroSort kind)) p all (g .is) (g .ends)

@@ -1,5 +1,5 @@
 -- A definition's promise, from the place behind its name back to its first token. Assumes nothing.
-use Prim.Native.Nat.{ℕ, suc, _+_, _<_}
+use Prim.Native.Nat.{ℕ, suc, _+_}
 use native.Mathlib.Omega.{arith}
 use mathlib.Core.Path.{_≡_, refl, ap, _∙_}
 use mathlib.Core.Bool.{Bool, true, false}
@@ -8,12 +8,12 @@ use lib.ListN.{drop}
 use Rattle.tokens.specs.Token.{Token, tokenAt}
 use Rattle.tokens.specs.Kind.{Ident}
 use Rattle.grammar.specs.Result.{plain, number, beyond, Res, got, bad, oneMore, seq}
-use Rattle.grammar.specs.FileReading.{Form, Definition, isMacro}
+use Rattle.grammar.specs.FileReading.{Form, Definition}
 use Rattle.grammar.specs.FileReader.{named}
 use Rattle.definitions.specs.declared.record.DefRead.{DefRead}
 use Rattle.definitions.specs.declared.record.DefRead.the-variants as defs
-use Rattle.definitions.specs.Answers.{Long, DefParsed}
-use Rattle.definitions.specs.Behind.{behindName, RestParsed}
+use Rattle.definitions.specs.Answers.{Long, DefWithin, DefParsed}
+use Rattle.definitions.specs.Behind.{behindName}
 use Rattle.statements.proofs.At.{expect-yes, expect-no}
 use Rattle.definitions.proofs.Readers.{Stops}
 
@@ -30,51 +30,44 @@ module _ (first p : ℕ) (rest : ℕ → List Token → Res Form) (all : List To
   unfolding named behindName
   name-there h = expect-yes (suc p) all Ident (plain 1) (afterName first (suc p) rest) h
 
-long : (b : Bool) (p e : ℕ) → suc (suc p) < e → Long b p e
-long true p e h = omega arith
-long false p e h = tt
-
--- a definition behind its first two tokens is the definition
-two-before : {all : List Token} {p i a size : ℕ} {de st ar de′ st′ ar′ : List ℕ} (x : Res Definition) {r : DefRead}
-    → RestParsed all (suc (suc p)) i a size x de st ar r de′ st′ ar′
-    → DefParsed all p i a size (oneMore (oneMore x)) de st ar r de′ st′ ar′
-two-before {p = p} (got d k) h =
-    let place : suc (suc p) + k ≡ p + suc (suc k) = omega arith in
-    let w = rw (h .is) at (h .within) in
+-- a definition read from the place behind p on, from p on: it is one token longer
+pub one-more : {least : ℕ} {all : List Token} {p q i a size : ℕ} {de st ar de′ st′ ar′ : List ℕ} (x : Res Definition) {r : DefRead}
+    → q ≡ suc p
+    → DefParsed least all q i a size x de st ar r de′ st′ ar′
+    → DefParsed (suc least) all p i a size (oneMore x) de st ar r de′ st′ ar′
+one-more {least} {p = p} {q} {size = size} (got d k) {r} e h =
+    let place : q + k ≡ p + suc k = omega arith in
     record {
       is = h .is ∙ rw place refl;
       definitionTable = h .definitionTable;
       statementTable = h .statementTable;
       argumentTable = h .argumentTable;
       name = h .name;
-      within = rw (h .is) (omega arith, omega arith, omega arith, omega arith, long (isMacro (d .form)) p _ (w .0));
+      within = nearer r (h .within);
     }
-two-before (bad y w) h =
-    record {
-      is = h .is;
-      definitionTable = h .definitionTable;
-      statementTable = h .statementTable;
-      argumentTable = h .argumentTable;
-      name = h .name;
-      within = rw (h .is) tt;
-    }
+  where
+    longer : (b : Bool) (end : ℕ) → Long least b q end → Long (suc least) b p end
+    longer true end h = omega arith
+    longer false end h = tt
+
+    nearer : (r : DefRead) → DefWithin least q size r → DefWithin (suc least) p size r
+    nearer (defs.Done f) w = (omega arith, w .1, omega arith, omega arith, longer (f .named) (f .at) (w .4))
+    nearer (defs.Refused c w) h = tt
+one-more (bad y w) e h = record { is = h .is; definitionTable = tt; statementTable = tt; argumentTable = tt; name = tt; within = rw (h .is) tt }
 
 refusal : {x : Res Definition} {c q : ℕ} (s : Stops x c q) → defs.Refused c q ≡ defs.Refused (number (s .why)) (s .place + beyond (s .why))
 refusal {q = q} s = ap (λ n. defs.Refused n q) (s .says) ∙ ap (λ w. defs.Refused (number (s .why)) w) (s .at)
 
 -- a reader that refuses promises no more
-module _ {all : List Token} {p i a size : ℕ} {de st ar de′ st′ ar′ : List ℕ} {x : Res Definition} {c q : ℕ} (s : Stops x c q) where
-  pub refused : DefParsed all p i a size x de st ar (defs.Refused c q) de′ st′ ar′
-  refused = rw (s .is) (record { is = refusal s; definitionTable = tt; statementTable = tt; argumentTable = tt; name = tt; within = tt })
-
-  pub rest-refused : RestParsed all p i a size x de st ar (defs.Refused c q) de′ st′ ar′
-  rest-refused = rw (s .is) (record { is = refusal s; definitionTable = tt; statementTable = tt; argumentTable = tt; name = tt; within = tt })
+pub refused : {least : ℕ} {all : List Token} {p i a size : ℕ} {de st ar de′ st′ ar′ : List ℕ} {x : Res Definition} {c q : ℕ} → Stops x c q
+    → DefParsed least all p i a size x de st ar (defs.Refused c q) de′ st′ ar′
+refused s = rw (s .is) (record { is = refusal s; definitionTable = tt; statementTable = tt; argumentTable = tt; name = tt; within = tt })
 
 -- the name stands there, and what stands behind it is read; the code writes the places its own way
 pub name-read : {all : List Token} {i a size : ℕ} {de st ar de′ st′ ar′ : List ℕ} (first p : ℕ) (rest : ℕ → List Token → Res Form) {m q : ℕ} {r : DefRead}
     → tokenAt all (suc p) .kind ≡ Ident
     → m ≡ suc p
     → q ≡ suc (suc p)
-    → RestParsed all q i a size (behindName first m all rest q) de st ar r de′ st′ ar′
-    → DefParsed all p i a size (oneMore (named first rest (suc p) (drop (suc p) all))) de st ar r de′ st′ ar′
-name-read {all} first p rest e m-is q-is h = rw (name-there first p rest all e) (two-before _ (rw (m-is, q-is) at h))
+    → DefParsed 5 all q i a size (behindName first m all rest q) de st ar r de′ st′ ar′
+    → DefParsed 7 all p i a size (oneMore (named first rest (suc p) (drop (suc p) all))) de st ar r de′ st′ ar′
+name-read {all} first p rest e m-is q-is h = rw (name-there first p rest all e) (one-more _ refl (one-more _ refl (rw (m-is, q-is) at h)))

@@ -1,8 +1,8 @@
--- Laws of remembered names: the hash a byte at a time, the buckets, the walk a name at a time, a bucket without a mark, one name more. Assumes nothing.
-use Prim.Native.Nat.{ℕ, zero, suc, _+_, _-_, _*_, _/_, _%_, _≤_, _<_}
+-- Laws of remembered names: the hash by four bytes and by one, the buckets, the walk a name at a time, a bucket without a mark, one name more. Assumes nothing.
+use Prim.Native.Nat.{ℕ, zero, suc, _+_, _-_, _*_, _/_, _≤_, _<_}
 use mathlib.Core.Path.{_≡_, refl, sym, ap, _∙_}
 use mathlib.Core.Bool.{Bool, true, false}
-use mathlib.Core.List.{List}
+use mathlib.Core.List.{List, [], _∷_}
 use mathlib.Core.Logic.{⊎-elim}
 use native.Mathlib.Omega.{arith}
 use native.Mathlib.Numerals.{add-one}
@@ -10,21 +10,57 @@ use native.Mathlib.Nat.{eq-or-lt-of-le}
 use borrow.Author.Tests.{eqb-true, eqb-false}
 use lib.Dec.{eqb}
 use lib.Bits.{and-le-r}
-use lib.ListN.{length, getD, drop, set, length-set, drop-of-length-le}
+use lib.ListN.{length, getD, drop, set, length-set, length-drop, drop-of-length-le}
 use lib.Seq.{drop-cons, getD-set-same, getD-set-other}
 use Rattle.tokens.specs.Token.{Token, tokenAt, view, textAt}
 use Rattle.tokens.specs.Byte.{same}
 use Rattle.tokens.specs.Name.{oneOf}
 use Rattle.tokens.proofs.NameLaws.{same-equal}
 use Rattle.tokens.proofs.ViewLaws.{view-text}
-use Rattle.definitions.specs.Names.{hashFrom, hashOf, bucket, mark, nameAt, namesAt, Noted, Noting}
+use Rattle.definitions.specs.Names.{mixed, hashFrom, hashOf, bucket, mark, nameAt, namesAt, Noted, Noting}
 
 -- ---- the hash
 
-pub hash-step : (h i : ℕ) (name : List ℕ) → i < length name
-    → hashFrom ((h + getD name i 0) * 2654435761 % 4294967296) (drop (i + 1) name) ≡ hashFrom h (drop i name)
+pub mixed-small : (h : ℕ) → mixed h < 4294967296
+unfolding mixed
+mixed-small h = omega arith
+
+-- four bytes more
+pub hash-four : (h i : ℕ) (name : List ℕ) → i + 4 ≤ length name
+    → hashFrom (mixed (h + getD name i 0 + getD name (i + 1) 0 * 256 + getD name (i + 2) 0 * 65536 + getD name (i + 3) 0 * 16777216)) (drop (i + 4) name)
+    ≡ hashFrom h (drop i name)
 unfolding hashFrom
-hash-step h i name lt = rw (add-one i, drop-cons name i 0 lt)
+hash-four h i name le = rw four refl
+  where
+    next : (j k : ℕ) → j < length name → k ≡ suc j → drop j name ≡ getD name j 0 ∷ drop k name
+    next j k lt e = rw e (drop-cons name j 0 lt)
+
+    four : drop i name ≡ getD name i 0 ∷ getD name (i + 1) 0 ∷ getD name (i + 2) 0 ∷ getD name (i + 3) 0 ∷ drop (i + 4) name
+    four =
+        next i (i + 1) (omega arith) (omega arith)
+        ∙ ap (λ (l : List ℕ). getD name i 0 ∷ l)
+        (next (i + 1) (i + 2) (omega arith) (omega arith)
+        ∙ ap (λ (l : List ℕ). getD name (i + 1) 0 ∷ l)
+        (next (i + 2) (i + 3) (omega arith) (omega arith)
+        ∙ ap (λ (l : List ℕ). getD name (i + 2) 0 ∷ l) (next (i + 3) (i + 4) (omega arith) (omega arith))))
+
+-- one more of the last three bytes
+last : (h a : ℕ) (bs : List ℕ) → length bs < 3 → hashFrom h (a ∷ bs) ≡ hashFrom (mixed (h + a)) bs
+unfolding hashFrom
+last h a [] lt = refl
+last h a (b ∷ []) lt = refl
+last h a (b ∷ c ∷ []) lt = refl
+last h a (b ∷ c ∷ d ∷ bs) lt = absurd (none (length bs) lt)
+  where
+    none : (n : ℕ) → suc (suc (suc n)) < 3 → ⊥
+    none n lt = omega arith
+
+pub hash-one : (h i : ℕ) (name : List ℕ) → i < length name → length name < i + 4
+    → hashFrom (mixed (h + getD name i 0)) (drop (i + 1) name) ≡ hashFrom h (drop i name)
+hash-one h i name lt few = rw (add-one i) (sym (rw (drop-cons name i 0 lt) (last h (getD name i 0) (drop (suc i) name) left)))
+  where
+    left : length (drop (suc i) name) < 3
+    left = let e = length-drop (suc i) name in omega arith
 
 pub hash-end : (h i : ℕ) (name : List ℕ) → length name ≤ i → hashFrom h (drop i name) ≡ h
 unfolding hashFrom

@@ -1,5 +1,5 @@
--- Readers put together: how a refusal and a value go through, and how a row of readers may be grouped. Assumes nothing.
-use Prim.Native.Nat.{ℕ, suc, _+_}
+-- Readers put together: how a refusal and a value go through, how a row of readers may be grouped, and how many tokens a value takes. Assumes nothing.
+use Prim.Native.Nat.{ℕ, suc, _+_, _≤_}
 use native.Mathlib.Nat.{add-zero, zero-add, add-assoc, suc-add}
 use native.Mathlib.Omega.{arith}
 use mathlib.Core.Path.{_≡_, refl, sym, ap, _∙_}
@@ -117,3 +117,45 @@ expect-group {A} {B} k y f g h p ts same = go (eqb (tokenAt ts 0 .kind) k)
     go : (b : Bool) → joined (stepped (cond b (on (f (tokenAt ts 0))) (refuse y)) p (drop 1 ts)) g p ts ≡ stepped (cond b (on (h (tokenAt ts 0))) (refuse y)) p (drop 1 ts)
     go true = inner (f (tokenAt ts 0) (suc p) (drop 1 ts)) ∙ ap oneMore (same (tokenAt ts 0) (suc p) (drop 1 ts))
     go false = refl
+
+-- ---- how many tokens
+
+-- a value takes at least n tokens
+abbrev pub Least : {A : Type 0} → ℕ → Res A → Type 0
+Least n (got a k) = n ≤ k
+Least n (bad y q) = Unit {0}
+
+-- every value of a reader does
+abbrev pub AtLeast : {A : Type 0} → ℕ → (ℕ → List Token → Res A) → Type 0
+AtLeast n u = (p : ℕ) (ts : List Token) → Least n (u p ts)
+
+pub any-least : {A : Type 0} (u : ℕ → List Token → Res A) → AtLeast 0 u
+any-least {A} u p ts = go (u p ts)
+  where
+    go : (x : Res A) → Least 0 x
+    go (got a k) = omega arith
+    go (bad y q) = tt
+
+pub expect-least : {A : Type 0} (n k : ℕ) (y : Why) (f : Token → ℕ → List Token → Res A) → ((t : Token) → AtLeast n (f t)) → AtLeast (suc n) (expect k y f)
+unfolding look
+expect-least {A} n k y f h p ts = go (eqb (tokenAt ts 0 .kind) k)
+  where
+    more : (x : Res A) → Least n x → Least (suc n) (oneMore x)
+    more (got a i) l = omega arith
+    more (bad z q) l = tt
+
+    go : (b : Bool) → Least (suc n) (stepped (cond b (on (f (tokenAt ts 0))) (refuse y)) p (drop 1 ts))
+    go true = more (f (tokenAt ts 0) (suc p) (drop 1 ts)) (h (tokenAt ts 0) (suc p) (drop 1 ts))
+    go false = tt
+
+pub seq-least : {A B : Type 0} (m n : ℕ) (u : ℕ → List Token → Res A) (f : A → ℕ → List Token → Res B) → AtLeast m u → ((a : A) → AtLeast n (f a)) → AtLeast (m + n) (seq u f)
+unfolding seq
+seq-least {A} {B} m n u f h g p ts = go (u p ts) (h p ts)
+  where
+    more : (i : ℕ) → m ≤ i → (x : Res B) → Least n x → Least (m + n) (counted i x)
+    more i le (got b k) l = omega arith
+    more i le (bad z q) l = tt
+
+    go : (x : Res A) → Least m x → Least (m + n) (joined x f p ts)
+    go (got a i) le = more i le (f a (p + i) (drop i ts)) (g a (p + i) (drop i ts))
+    go (bad z q) le = tt

@@ -28,11 +28,11 @@ use Rattle.definitions.specs.declared.table.TableKind.{TableKind}
 use Rattle.definitions.specs.declared.table.TableKind.the-variants.{Jump, Packed, Code}
 use Rattle.definitions.specs.declared.table.Entries.{Entries}
 use Rattle.definitions.specs.declared.table.Entries.the-variants as entries
-use Rattle.definitions.specs.Answers.{Lined}
-use Rattle.definitions.specs.Behind.{formed, behindName, RestParsed}
+use Rattle.definitions.specs.Answers.{Lined, DefParsed}
+use Rattle.definitions.specs.Behind.{formed, behindName}
 use Rattle.definitions.specs.Tables.{tableSort, tableKind, sizeWith, pastSign, pastSigns, entriesFrom, EntriesRead, TablePut}
 use Rattle.statements.proofs.At.{kind-is, look-table, look-else, expect-yes, expect-no}
-use Rattle.definitions.proofs.Named.{rest-refused}
+use Rattle.definitions.proofs.Named.{refused}
 use Rattle.definitions.proofs.Readers.{Stops, stops-here, as-stops, counted-stops, seq-stops, seq-at, counted-twice}
 
 -- ---- the loop over the entries
@@ -287,11 +287,11 @@ size-is codeTable es = refl
 
 module _ (sort : TableSort) (first name p : ℕ) (text words kept : List ℕ) {i a size q : ℕ} {de st ar de′ st′ : List ℕ} where
   pub table-refused : {ar′ : List ℕ} {c w : ℕ} → q ≡ pastSigns words kept p → EntriesRead sort q i a size (parseTableBody sort q (drop q (view text words kept))) st (entries.Refused c w) st′
-      → RestParsed (view text words kept) p i a size (behindName first name (view text words kept) (tableRest sort) p) de st ar (defs.Refused c w) de′ st′ ar′
+      → DefParsed 5 (view text words kept) p i a size (behindName first name (view text words kept) (tableRest sort) p) de st ar (defs.Refused c w) de′ st′ ar′
   unfolding behindName
   table-refused q-is h =
       let s = signs text words kept sort p in
-      rest-refused
+      refused
       (seq-stops (tableRest sort) (formed first name (view text words kept)) p (drop p (view text words kept))
       (as-stops (s .is)
       (counted-stops (s .count)
@@ -301,7 +301,7 @@ module _ (sort : TableSort) (first name p : ℕ) (text words kept : List ℕ) {i
   pub table-read : {n digits e : ℕ} {r : DefRead} → q ≡ pastSigns words kept p → p ≤ q
       → EntriesRead sort q i a size (parseTableBody sort q (drop q (view text words kept))) st (entries.Done n digits e) st′
       → TablePut sort first name n digits e i a de r de′
-      → RestParsed (view text words kept) p i a size (behindName first name (view text words kept) (tableRest sort) p) de st ar r de′ st′ ar
+      → DefParsed 5 (view text words kept) p i a size (behindName first name (view text words kept) (tableRest sort) p) de st ar r de′ st′ ar
   unfolding behindName definitionRecord formCount formArguments formStatements putAll
   table-read {n} {digits} {e} {r} q-is low h t = go (signs text words kept sort p) (entries-got _ h)
     where
@@ -309,7 +309,7 @@ module _ (sort : TableSort) (first name p : ℕ) (text words kept : List ℕ) {i
       all = view text words kept
 
       go : Signs sort p (pastSigns words kept p) all → EntriesGot sort q i a (parseTableBody sort q (drop q all)) st n digits e st′
-          → RestParsed all p i a size (behindName first name all (tableRest sort) p) de st ar r de′ st′ ar
+          → DefParsed 5 all p i a size (behindName first name all (tableRest sort) p) de st ar r de′ st′ ar
       go s g =
           let w = h .within in
           let place : e ≡ p + (s .count + (g .size + 0) + 0) = omega (arith, s .ends, g .ends) in
@@ -323,7 +323,7 @@ module _ (sort : TableSort) (first name p : ℕ) (text words kept : List ℕ) {i
             statementTable = g .written ∙ rw (add-zero (a + 0), add-zero a) refl;
             argumentTable = refl;
             name = refl;
-            within = rw (t .is) (omega arith, omega arith, omega arith, omega arith);
+            within = rw (t .is) (omega arith, omega arith, omega arith, omega arith, tt);
           })
 
 -- ---- the first token

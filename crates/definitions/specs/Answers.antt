@@ -58,24 +58,25 @@ abbrev pub NameStands : List Token → Res Definition → Type 0
 NameStands all (got d k) = d .token ≡ tokenAt all (d .name)
 NameStands all (bad y w) = Unit {0}
 
--- a macro, fn or test takes at least three tokens from p on
-abbrev pub Long : Bool → ℕ → ℕ → Type 0
-Long true p e = p + 3 ≤ e
-Long false p e = Unit {0}
+-- a macro, fn or test takes at least so many tokens from p on
+abbrev pub Long : ℕ → Bool → ℕ → ℕ → Type 0
+Long least true p e = p + least ≤ e
+Long least false p e = Unit {0}
 
-abbrev pub DefWithin : ℕ → ℕ → DefRead → Type 0
-DefWithin p size (defs.Done f) =
-    (p < f .at) × (f .at ≤ size) × (f .statements + p ≤ f .at) × (f .arguments + p ≤ f .at) × Long (f .named) p (f .at)
-DefWithin p size (defs.Refused c q) = Unit {0}
+abbrev pub DefWithin : ℕ → ℕ → ℕ → DefRead → Type 0
+DefWithin least p size (defs.Done f) =
+    (p < f .at) × (f .at ≤ size) × (f .statements + p ≤ f .at) × (f .arguments + p ≤ f .at) × Long least (f .named) p (f .at)
+DefWithin least p size (defs.Refused c q) = Unit {0}
 
--- what a definition's reader promises: its answer, the three tables, and bounds
-pub record DefParsed (all : List Token) (p i a size : ℕ) (read : Res Definition) (de st ar : List ℕ) (r : DefRead) (de′ st′ ar′ : List ℕ) : Type 0 where
+-- what a definition's reader promises: its answer, the three tables, and bounds. The shortest macro, `#define macro M() = {}`, has 8 tokens from Define on, 7
+-- from the token behind it on, and 5 from the place behind its name on
+pub record DefParsed (least : ℕ) (all : List Token) (p i a size : ℕ) (read : Res Definition) (de st ar : List ℕ) (r : DefRead) (de′ st′ ar′ : List ℕ) : Type 0 where
   pub is : r ≡ defAnswer p read
   pub definitionTable : DefinitionTable i a read de de′
   pub statementTable : StatementTable i a read st st′
   pub argumentTable : ArgumentTable read ar ar′
   pub name : NameStands all read
-  pub within : DefWithin p size r
+  pub within : DefWithin least p size r
 
 -- the same of the whole tables, of which the rests were lent: d definition, i statement and a argument records stand before
 pub record DefAdded (all : List Token) (p d i a size : ℕ) (read : Res Definition) (de st ar : List ℕ) (r : DefRead) (de′ st′ ar′ : List ℕ) : Type 0 where
@@ -84,7 +85,7 @@ pub record DefAdded (all : List Token) (p d i a size : ℕ) (read : Res Definiti
   pub statementTable : Written 8 (λ x. formStatements i (behindDeclared a (x .form)) (x .form)) read i st st′
   pub argumentTable : Written 7 (λ x. map argumentRecord (formArguments (x .form))) read a ar ar′
   pub name : NameStands all read
-  pub within : DefWithin p size r
+  pub within : DefWithin 8 p size r
 
 -- ---- the file
 
@@ -93,12 +94,12 @@ pub record Kept (words kept : List ℕ) : Type 0 where
   pub few : length kept ≤ 65536
   pub lined : Lined words kept
 
--- and room for the names of macros, fns and tests, each of which takes at least three tokens
+-- and room for the names of macros, fns and tests, each of which takes at least eight tokens
 pub record Readable (words kept marks places hashes : List ℕ) : Type 0 where
   pub list : Kept words kept
   pub buckets : 2 ≤ length marks
-  pub placed : length kept ≤ 3 * length places
-  pub stored : length kept ≤ 3 * length hashes
+  pub placed : length kept ≤ 8 * length places
+  pub stored : length kept ≤ 8 * length hashes
 
 -- the place of Eof and the three counts
 abbrev pub fileRead : ℕ → Res (List Definition) → FileRead

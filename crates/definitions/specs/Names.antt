@@ -9,10 +9,17 @@ use lib.ListN.{length, getD, set}
 use Rattle.tokens.specs.Token.{Token, tokenAt}
 use Rattle.tokens.specs.Name.{oneOf}
 
--- a number below 2 ^ 32 for every list of bytes; which one is of no account but for speed
+-- a number made into one below 2 ^ 32
+unfoldable pub mixed : ℕ → ℕ
+mixed h = h % 4294967296 * 2654435761 / 4096 % 4294967296
+
+-- a number below 2 ^ 32 for every list of bytes, four at a time and then one by one; which number it is is of no account but for speed
 unfoldable pub hashFrom : ℕ → List ℕ → ℕ
 hashFrom h [] = h
-hashFrom h (b ∷ bs) = hashFrom ((h + b) * 2654435761 % 4294967296) bs
+hashFrom h (a ∷ []) = mixed (h + a)
+hashFrom h (a ∷ b ∷ []) = mixed (mixed (h + a) + b)
+hashFrom h (a ∷ b ∷ c ∷ []) = mixed (mixed (mixed (h + a) + b) + c)
+hashFrom h (a ∷ b ∷ c ∷ d ∷ bs) = hashFrom (mixed (h + a + b * 256 + c * 65536 + d * 16777216)) bs
 
 abbrev pub hashOf : List ℕ → ℕ
 hashOf name = hashFrom 0 name

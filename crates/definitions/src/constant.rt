@@ -131,7 +131,7 @@ pub fn parse_constant(
     a: usize,
 ) -> DefRead
     requires { ⌜ Reading (now tokens) (now kept) first p i a ⌝ }
-    ensures { λ r. ⌜ DefParsed (view (now (text .entry)) (now (tokens .entry)) (now (kept .entry))) p i a (length (now (kept .entry)))
+    ensures { λ r. ⌜ DefParsed 7 (view (now (text .entry)) (now (tokens .entry)) (now (kept .entry))) p i a (length (now (kept .entry)))
         (parseConstant first p (tokensFrom (now (text .entry)) (now (tokens .entry)) (now (kept .entry)) p))
         (now (definitions .entry)) (now (statements .entry)) (now (arguments .entry)) r
         (now (definitions .exit)) (now (statements .exit)) (now (arguments .exit)) ⌝ }

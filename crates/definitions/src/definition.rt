@@ -79,7 +79,7 @@ pub fn parse_imports(
     a: usize,
 ) -> DefRead
     requires { ⌜ Reading (now tokens) (now kept) p p i a ⌝ }
-    ensures { λ r. ⌜ DefParsed (view (now (text .entry)) (now (tokens .entry)) (now (kept .entry))) p i a (length (now (kept .entry)))
+    ensures { λ r. ⌜ DefParsed 8 (view (now (text .entry)) (now (tokens .entry)) (now (kept .entry))) p i a (length (now (kept .entry)))
         (parseImports p (tokensFrom (now (text .entry)) (now (tokens .entry)) (now (kept .entry)) p))
         (now (definitions .entry)) (now (statements .entry)) (now (arguments .entry)) r
         (now (definitions .exit)) (now (statements .exit)) (now (arguments .exit)) ⌝ }
@@ -114,7 +114,7 @@ pub fn parse_function(
     a: usize,
 ) -> DefRead
     requires { ⌜ Reading (now tokens) (now kept) first p i a ⌝ }
-    ensures { λ r. ⌜ DefParsed (view (now (text .entry)) (now (tokens .entry)) (now (kept .entry))) p i a (length (now (kept .entry)))
+    ensures { λ r. ⌜ DefParsed 7 (view (now (text .entry)) (now (tokens .entry)) (now (kept .entry))) p i a (length (now (kept .entry)))
         (parseFunction first p (tokensFrom (now (text .entry)) (now (tokens .entry)) (now (kept .entry)) p))
         (now (definitions .entry)) (now (statements .entry)) (now (arguments .entry)) r
         (now (definitions .exit)) (now (statements .exit)) (now (arguments .exit)) ⌝ }
@@ -146,7 +146,7 @@ fn parse_listed(
 ) -> DefRead
     requires { ⌜ Reading (now tokens) (now kept) first p i a ⌝ }
     requires { ⌜ number ≡ listNumber sort ⌝ }
-    ensures { λ r. ⌜ DefParsed (view (now (text .entry)) (now (tokens .entry)) (now (kept .entry))) p i a (length (now (kept .entry)))
+    ensures { λ r. ⌜ DefParsed 7 (view (now (text .entry)) (now (tokens .entry)) (now (kept .entry))) p i a (length (now (kept .entry)))
         (expect kind (plain 1) (λ k. named first (listRest sort)) p (tokensFrom (now (text .entry)) (now (tokens .entry)) (now (kept .entry)) p))
         (now (definitions .entry)) (now (statements .entry)) (now (arguments .entry)) r
         (now (definitions .exit)) (now (statements .exit)) (now (arguments .exit)) ⌝ }
@@ -174,7 +174,7 @@ pub fn parse_event(
     a: usize,
 ) -> DefRead
     requires { ⌜ Reading (now tokens) (now kept) first p i a ⌝ }
-    ensures { λ r. ⌜ DefParsed (view (now (text .entry)) (now (tokens .entry)) (now (kept .entry))) p i a (length (now (kept .entry)))
+    ensures { λ r. ⌜ DefParsed 7 (view (now (text .entry)) (now (tokens .entry)) (now (kept .entry))) p i a (length (now (kept .entry)))
         (parseEvent first p (tokensFrom (now (text .entry)) (now (tokens .entry)) (now (kept .entry)) p))
         (now (definitions .entry)) (now (statements .entry)) (now (arguments .entry)) r
         (now (definitions .exit)) (now (statements .exit)) (now (arguments .exit)) ⌝ }
@@ -210,7 +210,7 @@ pub fn parse_custom_error(
     a: usize,
 ) -> DefRead
     requires { ⌜ Reading (now tokens) (now kept) first p i a ⌝ }
-    ensures { λ r. ⌜ DefParsed (view (now (text .entry)) (now (tokens .entry)) (now (kept .entry))) p i a (length (now (kept .entry)))
+    ensures { λ r. ⌜ DefParsed 7 (view (now (text .entry)) (now (tokens .entry)) (now (kept .entry))) p i a (length (now (kept .entry)))
         (parseCustomError first p (tokensFrom (now (text .entry)) (now (tokens .entry)) (now (kept .entry)) p))
         (now (definitions .entry)) (now (statements .entry)) (now (arguments .entry)) r
         (now (definitions .exit)) (now (statements .exit)) (now (arguments .exit)) ⌝ }
@@ -246,7 +246,7 @@ fn define(
     a: usize,
 ) -> DefRead
     requires { ⌜ Reading (now tokens) (now kept) first p i a ⌝ }
-    ensures { λ r. ⌜ DefParsed (view (now (text .entry)) (now (tokens .entry)) (now (kept .entry))) p i a (length (now (kept .entry)))
+    ensures { λ r. ⌜ DefParsed 7 (view (now (text .entry)) (now (tokens .entry)) (now (kept .entry))) p i a (length (now (kept .entry)))
         (byKind (kindTable base first) (plain 2) p (tokensFrom (now (text .entry)) (now (tokens .entry)) (now (kept .entry)) p))
         (now (definitions .entry)) (now (statements .entry)) (now (arguments .entry)) r
         (now (definitions .exit)) (now (statements .exit)) (now (arguments .exit)) ⌝ }
@@ -389,7 +389,7 @@ pub fn top_level(
     a: usize,
 ) -> DefRead
     requires { ⌜ Reading (now tokens) (now kept) p p i a ⌝ }
-    ensures { λ r. ⌜ DefParsed (view (now (text .entry)) (now (tokens .entry)) (now (kept .entry))) p i a (length (now (kept .entry)))
+    ensures { λ r. ⌜ DefParsed 8 (view (now (text .entry)) (now (tokens .entry)) (now (kept .entry))) p i a (length (now (kept .entry)))
         (topLevel base p (tokensFrom (now (text .entry)) (now (tokens .entry)) (now (kept .entry)) p))
         (now (definitions .entry)) (now (statements .entry)) (now (arguments .entry)) r
         (now (definitions .exit)) (now (statements .exit)) (now (arguments .exit)) ⌝ }

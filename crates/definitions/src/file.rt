@@ -55,7 +55,8 @@ fn next_definition(
     )
 }
 
-// Definitions up to Eof. marks, places and hashes are room for the names of macros, fns and tests.
+// Definitions up to Eof. marks, places and hashes are room for the names of macros, fns and tests, each of which takes at least eight tokens: places and
+// hashes for an eighth of the kept tokens are enough.
 pub fn parse(
     text: &[u8],
     tokens: &[u32],
@@ -134,8 +135,8 @@ fn parse_few(
         (now (definitions .exit)) (now (statements .exit)) (now (arguments .exit)) ⌝ }
 {
     let mut marks = [0u8; 4096];
-    let mut places = [0usize; 512];
-    let mut hashes = [0u32; 512];
+    let mut places = [0usize; 192];
+    let mut hashes = [0u32; 192];
     parse(
         text,
         tokens,
@@ -165,8 +166,8 @@ fn parse_some(
         (now (definitions .exit)) (now (statements .exit)) (now (arguments .exit)) ⌝ }
 {
     let mut marks = [0u8; 32768];
-    let mut places = [0usize; 4096];
-    let mut hashes = [0u32; 4096];
+    let mut places = [0usize; 1536];
+    let mut hashes = [0u32; 1536];
     parse(
         text,
         tokens,
@@ -195,8 +196,8 @@ fn parse_many(
         (now (definitions .exit)) (now (statements .exit)) (now (arguments .exit)) ⌝ }
 {
     let mut marks = [0u8; 131072];
-    let mut places = [0usize; 21846];
-    let mut hashes = [0u32; 21846];
+    let mut places = [0usize; 8192];
+    let mut hashes = [0u32; 8192];
     parse(
         text,
         tokens,

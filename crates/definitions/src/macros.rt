@@ -23,7 +23,7 @@ ghost use Rattle.grammar.specs.FileReader.{optional, macroRest, parseMacro};
 ghost use Rattle.statements.specs.Answers.{Place, ListRead, tokensFrom};
 ghost use Rattle.definitions.specs.Answers.{Reading, DefParsed};
 ghost use Rattle.definitions.specs.Macros.{NumberRead, numbersFrom, NumbersRead, headFrom, Declared, tailFrom, MacroKind, MacroPut, TailParsed, macroSort};
-ghost use Rattle.definitions.specs.Behind.{behindName, RestParsed};
+ghost use Rattle.definitions.specs.Behind.{behindName};
 
 // Takes, returns and the place behind them; or a refusal's number and cursor.
 pub enum Numbers {
@@ -189,7 +189,7 @@ fn macro_rest(
 ) -> DefRead
     requires { ⌜ Reading (now tokens) (now kept) first p i a ⌝ }
     requires { ⌜ (name ≤ p) × MacroKind kind ⌝ }
-    ensures { λ r. ⌜ RestParsed (view (now (text .entry)) (now (tokens .entry)) (now (kept .entry))) p i a (length (now (kept .entry)))
+    ensures { λ r. ⌜ DefParsed 5 (view (now (text .entry)) (now (tokens .entry)) (now (kept .entry))) p i a (length (now (kept .entry)))
         (behindName first name (view (now (text .entry)) (now (tokens .entry)) (now (kept .entry))) (macroRest base (macroSort kind)) p)
         (now (definitions .entry)) (now (statements .entry)) (now (arguments .entry)) r
         (now (definitions .exit)) (now (statements .exit)) (now (arguments .exit)) ⌝ }
@@ -228,7 +228,7 @@ pub fn parse_macro(
     a: usize,
 ) -> DefRead
     requires { ⌜ Reading (now tokens) (now kept) first p i a ⌝ }
-    ensures { λ r. ⌜ DefParsed (view (now (text .entry)) (now (tokens .entry)) (now (kept .entry))) p i a (length (now (kept .entry)))
+    ensures { λ r. ⌜ DefParsed 7 (view (now (text .entry)) (now (tokens .entry)) (now (kept .entry))) p i a (length (now (kept .entry)))
         (parseMacro base first p (tokensFrom (now (text .entry)) (now (tokens .entry)) (now (kept .entry)) p))
         (now (definitions .entry)) (now (statements .entry)) (now (arguments .entry)) r
         (now (definitions .exit)) (now (statements .exit)) (now (arguments .exit)) ⌝ }

@@ -12,17 +12,35 @@ ghost use mathlib.Core.Bool.{true, false};
 ghost use lib.ListN.{length, set};
 ghost use Rattle.tokens.specs.Token.{view, tokenAt};
 ghost use Rattle.tokens.specs.Name.{oneOf};
-ghost use Rattle.definitions.specs.Names.{hashOf, bucket, mark, namesAt, Noted, Checked};
+ghost use Rattle.definitions.specs.Names.{mixed, hashOf, bucket, mark, namesAt, Noted, Checked};
 
-// The hash of a name. Its modulus is a power of two, so that it costs a mask and no division for each byte; a byte is added before it is multiplied, so that
-// the last one too reaches the high bits.
+// A number mixed into the next hash: what stands in the low bits reaches the high ones by the product, and what stands in the high bits of it reaches
+// the low ones by the quotient. Both moduli and the divisor are powers of two, so that they cost no division.
+fn mix(h: u64) -> u64
+    ensures { λ r. ⌜ r ≡ mixed h ⌝ }
+{
+    h % 4294967296 * 2654435761 / 4096 % 4294967296
+}
+
+// The hash of a name: four bytes at a time, which cost one product, then those that are left.
 fn hash_of(name: &[u8]) -> u32
     ensures { λ r. ⌜ r ≡ hashOf (now (name .entry)) ⌝ }
 {
+    let n = name.len();
     let mut h: u64 = 0;
     let mut i = 0;
-    while i < name.len() {
-        h = (h + name[i] as u64) * 2654435761 % 4294967296;
+    while i + 4 <= n {
+        h = mix(
+            h
+                + name[i] as u64
+                + name[i + 1] as u64 * 256
+                + name[i + 2] as u64 * 65536
+                + name[i + 3] as u64 * 16777216,
+        );
+        i += 4;
+    }
+    while i < n {
+        h = mix(h + name[i] as u64);
         i += 1;
     }
     h as u32

@@ -23,7 +23,7 @@ ghost use Rattle.grammar.specs.FileReader.{parseTableBody, tableRest, parseTabl
 ghost use Rattle.statements.specs.Answers.{tokensFrom};
 ghost use Rattle.definitions.specs.Answers.{Reading, DefParsed};
 ghost use Rattle.definitions.specs.Tables.{tableSort, tableKind, sizeWith, pastSign, pastSigns, Past, entriesFrom, EntriesRead, Sized, TablePut};
-ghost use Rattle.definitions.specs.Behind.{behindName, RestParsed};
+ghost use Rattle.definitions.specs.Behind.{behindName};
 
 // The three kinds of a table.
 pub enum TableKind {
@@ -257,7 +257,7 @@ fn table_rest(
 ) -> DefRead
     requires { ⌜ Reading (now tokens) (now kept) first p i a ⌝ }
     requires { ⌜ name ≤ p ⌝ }
-    ensures { λ r. ⌜ RestParsed (view (now (text .entry)) (now (tokens .entry)) (now (kept .entry))) p i a (length (now (kept .entry)))
+    ensures { λ r. ⌜ DefParsed 5 (view (now (text .entry)) (now (tokens .entry)) (now (kept .entry))) p i a (length (now (kept .entry)))
         (behindName first name (view (now (text .entry)) (now (tokens .entry)) (now (kept .entry))) (tableRest (tableSort kind)) p)
         (now (definitions .entry)) (now (statements .entry)) (now (arguments .entry)) r
         (now (definitions .exit)) (now (statements .exit)) (now (arguments .exit)) ⌝ }
@@ -294,7 +294,7 @@ pub fn parse_table(
     a: usize,
 ) -> DefRead
     requires { ⌜ Reading (now tokens) (now kept) first p i a ⌝ }
-    ensures { λ r. ⌜ DefParsed (view (now (text .entry)) (now (tokens .entry)) (now (kept .entry))) p i a (length (now (kept .entry)))
+    ensures { λ r. ⌜ DefParsed 7 (view (now (text .entry)) (now (tokens .entry)) (now (kept .entry))) p i a (length (now (kept .entry)))
         (parseTable first p (tokensFrom (now (text .entry)) (now (tokens .entry)) (now (kept .entry)) p))
         (now (definitions .entry)) (now (statements .entry)) (now (arguments .entry)) r
         (now (definitions .exit)) (now (statements .exit)) (now (arguments .exit)) ⌝ }

@@ -1,5 +1,6 @@
 use Prim.Native.Nat.{_+_}
 use mathlib.Core.Path.{refl, _∙_}
+use native.Mathlib.Numerals.{add-one}
 use borrow.Author.Needs.{needs}
 use lib.ListN.{drop}
 use Rattle.tokens.specs.Token.{view}
@@ -7,7 +8,8 @@ use Rattle.grammar.specs.Result.{plain, choose}
 use Rattle.grammar.specs.Rules.{base}
 use Rattle.grammar.specs.FileReader.{byKind, kindTable}
 use Rattle.statements.proofs.At.{kind-is}
-use Rattle.definitions.proofs.DefinitionLaws.{refused-plain, refused-parsed, top-at, top-none, defined, one-more}
+use Rattle.definitions.proofs.DefinitionLaws.{refused-plain, refused-parsed, top-at, top-none, defined}
+use Rattle.definitions.proofs.Named.{one-more}
 use Rattle.definitions.proofs.definition.top_level.Statement.{statement}
 use Rattle.definitions.proofs.definition.top_level.Tie as tie
 
@@ -54,7 +56,7 @@ returns-2 c =
     let args = c .before .before .before .before .before .before .before .before .before .before .before .before .before .before .before .before .before .before .args in
     let all = view (args .text .now) (args .tokens .now) (args .kept .now) in
     let k = kind-is (args .text .now) (args .p) (c .before .before .before .before .before .before .before .before .before .before .before .kind-at .ensures) refl in
-    rw (defined all (args .p) (k ∙ c .before .before .before .before .before .before .before .before .before .before .match .keys2)) (one-more {all = all} (byKind (kindTable base (args .p)) (plain 2) (args .p + 1) (drop (args .p + 1) all)) (c .before .before .before .before .before .before .define .ensures))
+    rw (defined all (args .p) (k ∙ c .before .before .before .before .before .before .before .before .before .before .match .keys2)) (one-more {all = all} (byKind (kindTable base (args .p)) (plain 2) (args .p + 1) (drop (args .p + 1) all)) (add-one _) (c .before .before .before .before .before .before .define .ensures))
 
 returns-3 : tie.Need-returns-3
 unfolding choose
