@@ -2,20 +2,19 @@
 use Prim.Native.Nat.{ℕ, _+_, _-_, _/_, _≤_, _<_}
 use mathlib.Core.Path.{_≡_, refl, sym, ap, _∙_}
 use mathlib.Core.Bool.{true}
-use mathlib.Core.List.{List, [], _++_, flatten}
+use mathlib.Core.List.{List, [], flatten}
 use native.Mathlib.Omega.{arith}
 use native.Mathlib.Nat.{sub-zero, zero-add}
 use borrow.Author.Tests.{lt-ltb, le-ltb}
-use lib.ListN.{length, replicate, take, drop, length-replicate}
+use lib.ListN.{length, replicate, take, drop}
 use lib.Seq.{sets, sets-eq, length-sets, take-at}
-use Rattle.tokens.specs.Table.{putAll}
+use Rattle.tokens.specs.Table.{clearedBehind}
 use Rattle.tokens.specs.Token.{view}
 use Rattle.tokens.specs.Kept.{keptOf}
 use Rattle.tokens.specs.Door.{door, Prepared, keptAfter}
 use Rattle.tokens.specs.declared.door.Door.{Door}
 use Rattle.tokens.specs.declared.door.Door.the-variants as doors
-use Rattle.tokens.proofs.Laws.{start-inside}
-use Rattle.tokens.proofs.TableLaws.{Wide, records-then-zeros}
+use Rattle.tokens.proofs.TableLaws.{records-then-zeros}
 use Rattle.tokens.proofs.DoorLaws.{ready, LetThrough, file-not-31}
 use Rattle.grammar.specs.Result.{Res, got, bad}
 use Rattle.grammar.specs.Rules.{base}
@@ -29,7 +28,7 @@ use Rattle.definitions.specs.declared.entry.File.{File}
 use Rattle.definitions.specs.declared.entry.File.the-variants as answers
 use Rattle.definitions.specs.Answers.{Kept, FileParsed}
 use Rattle.definitions.specs.Call.{settled, FileTaken, FileCall}
-use Rattle.definitions.proofs.RecordLaws.{definition-count, statement-count, argument-count, definition-wide, statement-wide, argument-wide, wide-flat}
+use Rattle.definitions.proofs.RecordLaws.{definition-count, statement-count, argument-count, definition-wide, statement-wide, argument-wide}
 use Rattle.definitions.proofs.Lined.{lined-kept, kept-few}
 
 -- ---- tables
@@ -39,51 +38,32 @@ pub filled-none : (n : ℕ) → filled n [] ≡ replicate n 0
 unfolding flatten
 filled-none n = ap (λ (k : ℕ). replicate k 0) (sub-zero n)
 
--- the records, then zeros
-filled-records : (w : ℕ) (rs : List (List ℕ)) (len : ℕ) → 0 < w → Wide w rs → length rs ≤ len / w → putAll w (replicate len 0) 0 rs ≡ filled len rs
-filled-records w rs len p h room =
-    records-then-zeros w rs len p h (start-inside len (length rs) w p room)
-    ∙ ap (λ (n : ℕ). flatten rs ++ replicate (len - n) 0) (sym (wide-flat w rs h))
-
--- ---- each way out of `read_kept`: the tables were zeroed before the reading, and are again after a refusal
-
 -- the table t was zeroed to z
 abbrev pub Zeroed : List ℕ → List ℕ → Type 0
 Zeroed t z = z ≡ replicate (length t) 0
 
--- what it became keeps its length
-as-long : (t z u : List ℕ) → Zeroed t z → length u ≡ length z → length u ≡ length t
-as-long t z u e same = same ∙ ap length e ∙ length-replicate (length t) 0
+-- a table that kept its length, zeroed
+none-left : (t u v : List ℕ) → length u ≡ length t → Zeroed u v → v ≡ filled (length t) []
+none-left t u v same f = f ∙ ap (λ (n : ℕ). replicate n 0) same ∙ sym (filled-none (length t))
 
-zero-again : (t u v : List ℕ) → length u ≡ length t → Zeroed u v → v ≡ filled (length t) []
-zero-again t u v same f = f ∙ ap (λ (n : ℕ). replicate n 0) same ∙ sym (filled-none (length t))
+-- ---- each way out of `read_kept`: after a refusal the tables are zeroed, else what stands behind the records
 
-module _ (de st ar de₀ st₀ ar₀ de₁ st₁ ar₁ : List ℕ) (zeroed : Zeroed de de₀ × Zeroed st st₀ × Zeroed ar ar₀)
-    (de-kept : length de₁ ≡ length de₀) (st-kept : length st₁ ≡ length st₀) (ar-kept : length ar₁ ≡ length ar₀) where
-  de-same : length de₁ ≡ length de
-  de-same = as-long de de₀ de₁ (zeroed .0) de-kept
-
-  st-same : length st₁ ≡ length st
-  st-same = as-long st st₀ st₁ (zeroed .1) st-kept
-
-  ar-same : length ar₁ ≡ length ar
-  ar-same = as-long ar ar₀ ar₁ (zeroed .2) ar-kept
-
-  module _ (de₂ st₂ ar₂ : List ℕ) (again : Zeroed de₁ de₂ × Zeroed st₁ st₂ × Zeroed ar₁ ar₂) where
+module _ (de st ar de₁ st₁ ar₁ : List ℕ) (de-same : length de₁ ≡ length de) (st-same : length st₁ ≡ length st) (ar-same : length ar₁ ≡ length ar) (de₂ st₂ ar₂ : List ℕ) where
+  module _ (zeroed : Zeroed de₁ de₂ × Zeroed st₁ st₂ × Zeroed ar₁ ar₂) where
     -- 1 to 21
-    pub taken-refused : (read : Res (List Definition)) (c q : ℕ) (r : FileRead) → FileParsed read de₀ st₀ ar₀ r de₁ st₁ ar₁ → r ≡ files.Refused c q
+    pub taken-refused : (read : Res (List Definition)) (c q : ℕ) (r : FileRead) → FileParsed read de st ar r de₁ st₁ ar₁ → r ≡ files.Refused c q
         → FileTaken (fileAnswer read) de st ar (answers.Refused c q) de₂ st₂ ar₂
     taken-refused (got ds k) c q r h g = absurd (let z : _≡_ {A = ℕ} 0 1 = cc (h .is) in omega arith)
     taken-refused (bad y w) c q r h g =
         record {
           answer = cc (h .is);
-          definitionTable = zero-again de de₁ de₂ de-same (again .0);
-          statementTable = zero-again st st₁ st₂ st-same (again .1);
-          argumentTable = zero-again ar ar₁ ar₂ ar-same (again .2);
+          definitionTable = none-left de de₁ de₂ de-same (zeroed .0);
+          statementTable = none-left st st₁ st₂ st-same (zeroed .1);
+          argumentTable = none-left ar ar₁ ar₂ ar-same (zeroed .2);
         }
 
     -- 32
-    pub taken-32 : (read : Res (List Definition)) (p d i a : ℕ) (r : FileRead) → FileParsed read de₀ st₀ ar₀ r de₁ st₁ ar₁ → r ≡ files.Done p d i a
+    pub taken-32 : (read : Res (List Definition)) (p d i a : ℕ) (r : FileRead) → FileParsed read de st ar r de₁ st₁ ar₁ → r ≡ files.Done p d i a
         → length de₁ / 12 < d
         → FileTaken (fileAnswer read) de st ar (answers.DefinitionsTooSmall d) de₂ st₂ ar₂
     unfolding settled
@@ -91,14 +71,14 @@ module _ (de st ar de₀ st₀ ar₀ de₁ st₁ ar₁ : List ℕ) (zeroed : Zer
         let count : length ds ≡ d = cc (h .is) in
         record {
           answer = rw (lt-ltb (length de / 12) (length ds) (rw (count, ← de-same) small)) (cc);
-          definitionTable = zero-again de de₁ de₂ de-same (again .0);
-          statementTable = zero-again st st₁ st₂ st-same (again .1);
-          argumentTable = zero-again ar ar₁ ar₂ ar-same (again .2);
+          definitionTable = none-left de de₁ de₂ de-same (zeroed .0);
+          statementTable = none-left st st₁ st₂ st-same (zeroed .1);
+          argumentTable = none-left ar ar₁ ar₂ ar-same (zeroed .2);
         }
     taken-32 (bad y w) p d i a r h g small = absurd (let z : _≡_ {A = ℕ} 0 1 = cc (h .is) in omega arith)
 
     -- 33
-    pub taken-33 : (read : Res (List Definition)) (p d i a : ℕ) (r : FileRead) → FileParsed read de₀ st₀ ar₀ r de₁ st₁ ar₁ → r ≡ files.Done p d i a
+    pub taken-33 : (read : Res (List Definition)) (p d i a : ℕ) (r : FileRead) → FileParsed read de st ar r de₁ st₁ ar₁ → r ≡ files.Done p d i a
         → d ≤ length de₁ / 12 → length st₁ / 8 < i
         → FileTaken (fileAnswer read) de st ar (answers.StatementsTooSmall i) de₂ st₂ ar₂
     unfolding settled
@@ -107,14 +87,14 @@ module _ (de st ar de₀ st₀ ar₀ de₁ st₁ ar₁ : List ℕ) (zeroed : Zer
         let count′ : fileStatementCount ds ≡ i = cc (h .is) in
         record {
           answer = rw (le-ltb (length de / 12) (length ds) (rw (count, ← de-same) room), lt-ltb (length st / 8) (fileStatementCount ds) (rw (count′, ← st-same) small)) (cc);
-          definitionTable = zero-again de de₁ de₂ de-same (again .0);
-          statementTable = zero-again st st₁ st₂ st-same (again .1);
-          argumentTable = zero-again ar ar₁ ar₂ ar-same (again .2);
+          definitionTable = none-left de de₁ de₂ de-same (zeroed .0);
+          statementTable = none-left st st₁ st₂ st-same (zeroed .1);
+          argumentTable = none-left ar ar₁ ar₂ ar-same (zeroed .2);
         }
     taken-33 (bad y w) p d i a r h g room small = absurd (let z : _≡_ {A = ℕ} 0 1 = cc (h .is) in omega arith)
 
     -- 34
-    pub taken-34 : (read : Res (List Definition)) (p d i a : ℕ) (r : FileRead) → FileParsed read de₀ st₀ ar₀ r de₁ st₁ ar₁ → r ≡ files.Done p d i a
+    pub taken-34 : (read : Res (List Definition)) (p d i a : ℕ) (r : FileRead) → FileParsed read de st ar r de₁ st₁ ar₁ → r ≡ files.Done p d i a
         → d ≤ length de₁ / 12 → i ≤ length st₁ / 8 → length ar₁ / 7 < a
         → FileTaken (fileAnswer read) de st ar (answers.ArgumentsTooSmall a) de₂ st₂ ar₂
     unfolding settled
@@ -129,18 +109,19 @@ module _ (de st ar de₀ st₀ ar₀ de₁ st₁ ar₁ : List ℕ) (zeroed : Zer
                 le-ltb (length st / 8) (fileStatementCount ds) (rw (count′, ← st-same) room′),
                 lt-ltb (length ar / 7) (length (fileArguments ds)) (rw (count″, ← ar-same) small),
               ) (cc);
-          definitionTable = zero-again de de₁ de₂ de-same (again .0);
-          statementTable = zero-again st st₁ st₂ st-same (again .1);
-          argumentTable = zero-again ar ar₁ ar₂ ar-same (again .2);
+          definitionTable = none-left de de₁ de₂ de-same (zeroed .0);
+          statementTable = none-left st st₁ st₂ st-same (zeroed .1);
+          argumentTable = none-left ar ar₁ ar₂ ar-same (zeroed .2);
         }
     taken-34 (bad y w) p d i a r h g room room′ small = absurd (let z : _≡_ {A = ℕ} 0 1 = cc (h .is) in omega arith)
 
   -- accepted
-  pub taken-read : (read : Res (List Definition)) (p d i a : ℕ) (r : FileRead) → FileParsed read de₀ st₀ ar₀ r de₁ st₁ ar₁ → r ≡ files.Done p d i a
+  pub taken-read : (read : Res (List Definition)) (p d i a : ℕ) (r : FileRead) → FileParsed read de st ar r de₁ st₁ ar₁ → r ≡ files.Done p d i a
       → d ≤ length de₁ / 12 → i ≤ length st₁ / 8 → a ≤ length ar₁ / 7
-      → FileTaken (fileAnswer read) de st ar (answers.Read p d i a) de₁ st₁ ar₁
+      → (de₂ ≡ clearedBehind 12 d de₁) × (st₂ ≡ clearedBehind 8 i st₁) × (ar₂ ≡ clearedBehind 7 a ar₁)
+      → FileTaken (fileAnswer read) de st ar (answers.Read p d i a) de₂ st₂ ar₂
   unfolding settled
-  taken-read (got ds k) p d i a r h g room room′ room″ =
+  taken-read (got ds k) p d i a r h g room room′ room″ cleared =
       let count : length ds ≡ d = cc (h .is) in
       let count′ : fileStatementCount ds ≡ i = cc (h .is) in
       let count″ : length (fileArguments ds) ≡ a = cc (h .is) in
@@ -153,19 +134,16 @@ module _ (de st ar de₀ st₀ ar₀ de₁ st₁ ar₁ : List ℕ) (zeroed : Zer
               le-ltb (length ar / 7) (length (fileArguments ds)) (rw (count″, ← ar-same) room″),
             ) (cc (zero-add k));
         definitionTable =
-            h .definitionTable
-            ∙ ap (λ (t : List ℕ). putAll 12 t 0 (definitionRecords 0 0 ds)) (zeroed .0)
-            ∙ filled-records 12 (definitionRecords 0 0 ds) (length de) (omega arith) (definition-wide 0 0 ds) (rw (definition-count 0 0 ds, count, ← de-same) room);
+            cleared .0
+            ∙ records-then-zeros 12 (definitionRecords 0 0 ds) de (omega arith) (definition-wide 0 0 ds) (definition-count 0 0 ds ∙ count) (rw (← de-same) room) (h .definitionTable);
         statementTable =
-            h .statementTable
-            ∙ ap (λ (t : List ℕ). putAll 8 t 0 (fileStatements 0 0 ds)) (zeroed .1)
-            ∙ filled-records 8 (fileStatements 0 0 ds) (length st) (omega arith) (statement-wide 0 0 ds) (rw (statement-count 0 0 ds, count′, ← st-same) room′);
+            cleared .1
+            ∙ records-then-zeros 8 (fileStatements 0 0 ds) st (omega arith) (statement-wide 0 0 ds) (statement-count 0 0 ds ∙ count′) (rw (← st-same) room′) (h .statementTable);
         argumentTable =
-            h .argumentTable
-            ∙ ap (λ (t : List ℕ). putAll 7 t 0 (fileArgumentRecords ds)) (zeroed .2)
-            ∙ filled-records 7 (fileArgumentRecords ds) (length ar) (omega arith) (argument-wide ds) (rw (argument-count ds, count″, ← ar-same) room″);
+            cleared .2
+            ∙ records-then-zeros 7 (fileArgumentRecords ds) ar (omega arith) (argument-wide ds) (argument-count ds ∙ count″) (rw (← ar-same) room″) (h .argumentTable);
       }
-  taken-read (bad y w) p d i a r h g room room′ room″ = absurd (let z : _≡_ {A = ℕ} 0 1 = cc (h .is) in omega arith)
+  taken-read (bad y w) p d i a r h g room room′ room″ cleared = absurd (let z : _≡_ {A = ℕ} 0 1 = cc (h .is) in omega arith)
 
 -- ---- each way out of `read_file`
 

@@ -1,15 +1,14 @@
 -- What the grammar proves of a file's records, in the words of the laws on tables: as many as counted, each as wide as it should be. Assumes nothing.
-use Prim.Native.Nat.{ℕ, _*_}
+use Prim.Native.Nat.{ℕ}
 use mathlib.Core.Path.{_≡_, sym, ap, _∙_}
-use mathlib.Core.List.{List, [], _∷_, append-nil, flatten}
-use native.Mathlib.Omega.{arith}
-use native.Mathlib.Nat.{add-zero, suc-mul, zero-mul}
-use lib.ListN.{length, length-append}
+use mathlib.Core.List.{List, [], _∷_, append-nil}
+use native.Mathlib.Nat.{add-zero}
+use lib.ListN.{length}
 use Rattle.tokens.proofs.TableLaws.{Wide}
-use Rattle.grammar.specs.Ranges.{All}
 use Rattle.grammar.specs.FileReading.{Definition}
 use Rattle.grammar.specs.FileRecords.{definitionRecords, formStatements, formCount, behindDeclared, fileStatements, fileArguments, fileArgumentRecords, fileStatementCount}
 use Rattle.grammar.proofs.FileRecorded.{file-as-many, file-as-wide}
+use Rattle.statements.proofs.EntryLaws.{all-wide}
 
 -- ---- as many
 
@@ -30,21 +29,11 @@ argument-count ds = file-as-many 0 0 ds .2
 
 -- ---- as wide
 
-wide : (w : ℕ) (rs : List (List ℕ)) → All (λ r. length r ≡ w) rs → Wide w rs
-wide w [] h = tt
-wide w (r ∷ rs) h = (h .0, wide w rs (h .1))
-
 pub definition-wide : (i a : ℕ) (ds : List Definition) → Wide 12 (definitionRecords i a ds)
-definition-wide i a ds = wide 12 (definitionRecords i a ds) (file-as-wide i a ds .0)
+definition-wide i a ds = all-wide 12 (definitionRecords i a ds) (file-as-wide i a ds .0)
 
 pub statement-wide : (i a : ℕ) (ds : List Definition) → Wide 8 (fileStatements i a ds)
-statement-wide i a ds = wide 8 (fileStatements i a ds) (file-as-wide i a ds .1)
+statement-wide i a ds = all-wide 8 (fileStatements i a ds) (file-as-wide i a ds .1)
 
 pub argument-wide : (ds : List Definition) → Wide 7 (fileArgumentRecords ds)
-argument-wide ds = wide 7 (fileArgumentRecords ds) (file-as-wide 0 0 ds .2)
-
--- so many words
-pub wide-flat : (w : ℕ) (rs : List (List ℕ)) → Wide w rs → length (flatten rs) ≡ length rs * w
-unfolding flatten
-wide-flat w [] h = rw zero-mul
-wide-flat w (r ∷ rs) h = length-append r (flatten rs) ∙ rw (h .0, wide-flat w rs (h .1), suc-mul) (omega arith)
+argument-wide ds = all-wide 7 (fileArgumentRecords ds) (file-as-wide 0 0 ds .2)

@@ -3,10 +3,12 @@ use crate::file::FileRead;
 use crate::file::read_definitions;
 use tokens::Door;
 use tokens::clear;
+use tokens::clear_behind;
 use tokens::prepare;
 ghost use mathlib.Core.Path.{_≡_};
 ghost use mathlib.Core.Bool.{true};
 ghost use lib.ListN.{length, replicate};
+ghost use Rattle.tokens.specs.Table.{clearedBehind};
 ghost use Rattle.tokens.specs.Token.{view};
 ghost use Rattle.grammar.specs.Rules.{base};
 ghost use Rattle.grammar.specs.FileReader.{fileAt};
@@ -39,6 +41,24 @@ fn clear_all(definitions: &mut [u32], statements: &mut [u32], arguments: &mut [u
     clear(arguments);
 }
 
+// Every word behind the records 0. What is in front of them was written with the records, so it need not be cleared before.
+fn clear_rest(
+    definitions: &mut [u32],
+    d: usize,
+    statements: &mut [u32],
+    i: usize,
+    arguments: &mut [u32],
+    a: usize,
+)
+    ensures { λ _. ⌜ (now (definitions .exit) ≡ clearedBehind 12 d (now (definitions .entry)))
+        × (now (statements .exit) ≡ clearedBehind 8 i (now (statements .entry)))
+        × (now (arguments .exit) ≡ clearedBehind 7 a (now (arguments .entry))) ⌝ }
+{
+    clear_behind(definitions, d, 12);
+    clear_behind(statements, i, 8);
+    clear_behind(arguments, a, 7);
+}
+
 // The file of the kept tokens: 1 to 21, then 32, 33, 34. A table that is too small is told only now, since its whole need is the cursor.
 fn read_kept(
     text: &[u8],
@@ -53,7 +73,6 @@ fn read_kept(
         (now (definitions .entry)) (now (statements .entry)) (now (arguments .entry)) r
         (now (definitions .exit)) (now (statements .exit)) (now (arguments .exit)) ⌝ }
 {
-    clear_all(definitions, statements, arguments);
     match read_definitions(text, tokens, kept, definitions, statements, arguments) {
         FileRead::Refused(c, q) => {
             clear_all(definitions, statements, arguments);
@@ -72,6 +91,7 @@ fn read_kept(
                 clear_all(definitions, statements, arguments);
                 return File::ArgumentsTooSmall(a);
             }
+            clear_rest(definitions, d, statements, i, arguments, a);
             File::Read(p, d, i, a)
         }
     }

@@ -1,27 +1,26 @@
 -- The entry: the kept list as the door leaves it, tables that hold records and then zeros, and the answer for what was read. Assumes nothing.
-use Prim.Native.Nat.{ℕ, zero, suc, _+_, _-_, _*_, _/_, _≤_, _<_}
-use native.Mathlib.Nat.{zero-add, sub-zero, suc-mul, zero-mul}
+use Prim.Native.Nat.{ℕ, _+_, _-_, _/_, _≤_}
+use native.Mathlib.Nat.{zero-add, sub-zero}
 use native.Mathlib.Omega.{arith}
 use mathlib.Core.Path.{_≡_, refl, sym, ap, _∙_}
 use mathlib.Core.Bool.{Bool, true, false, cond, _&&_}
 use mathlib.Core.List.{List, [], _∷_, _++_, flatten}
 use borrow.Author.Tests.{ltb-false}
-use lib.ListN.{length, take, drop, replicate, length-append}
+use lib.ListN.{length, getD, take, drop, replicate, length-append}
 use lib.Seq.{sets-eq, take-at}
 use lib.Dec.{ltb}
-use Rattle.tokens.specs.Token.{view, kindOf, tokenCount}
-use Rattle.tokens.specs.Kept.{dropped, keepUnless, keptFrom, keptOf}
-use Rattle.tokens.specs.Table.{putAll}
-use Rattle.tokens.specs.Door.{door, keptAfter, Prepared}
+use Rattle.tokens.specs.Token.{view, tokenCount}
+use Rattle.tokens.specs.Kept.{keptOf}
+use Rattle.tokens.specs.Table.{putAll, clearedBehind}
+use Rattle.tokens.specs.Door.{keptAfter, Prepared}
 use Rattle.tokens.specs.declared.door.Door.{Door}
 use Rattle.tokens.specs.declared.door.Door.the-variants.{Ready}
-use Rattle.tokens.proofs.DoorLaws.{LetThrough, ready}
-use Rattle.tokens.proofs.Laws.{start-inside}
-use Rattle.tokens.proofs.TableLaws.{zeros, Wide, records-then-zeros}
+use Rattle.tokens.proofs.DoorLaws.{LetThrough, ready, kept-few}
+use Rattle.tokens.proofs.TableLaws.{cleared-none, Wide, records-then-zeros}
 use Rattle.grammar.specs.Reading.{Reading}
 use Rattle.grammar.specs.Rules.{base}
 use Rattle.grammar.specs.Result.{Res, got, bad, number, beyond}
-use Rattle.grammar.specs.Reader.{bodyFrom, read, answer, bodyAt}
+use Rattle.grammar.specs.Reader.{bodyFrom, bodyAt}
 use Rattle.grammar.specs.Ranges.{All}
 use Rattle.grammar.specs.Records.{statementRecords, argumentRecords, statementCount, argumentCount}
 use Rattle.grammar.specs.PlainLength.{mainBytes, groupBytes, allMeasured, groupsMeasured, plainLength}
@@ -32,19 +31,10 @@ use Rattle.statements.specs.declared.item.Items.the-variants as items
 use Rattle.statements.specs.declared.entry.Body.{Body}
 use Rattle.statements.specs.declared.entry.Body.the-variants.{Refused, StatementsTooSmall, ArgumentsTooSmall, Read}
 use Rattle.statements.specs.Answers.{Place, BodyParsed}
-use Rattle.statements.specs.Call.{settled, afterDoor, recordsOf, filled, tableAfter, readingAt, BodyCall}
-use Rattle.statements.specs.Settled.{settledItems, tableLeft, Settled, BodyRead}
+use Rattle.statements.specs.Call.{values, settled, afterDoor, recordsOf, filled, tableAfter, readingAt, BodyCall}
+use Rattle.statements.specs.Settled.{settledItems, Settled, BodyRead}
 
 -- ---- the kept list
-
-kept-few : (words : List ℕ) (left i : ℕ) → length (keptFrom words left i) ≤ left
-unfolding keptFrom
-kept-few words zero i = omega arith
-kept-few words (suc left) i = go (dropped (kindOf words i)) (kept-few words left (i + 1))
-  where
-    go : (b : Bool) → length (keptFrom words left (i + 1)) ≤ left → length (keepUnless b i (keptFrom words left (i + 1))) ≤ suc left
-    go true h = omega arith
-    go false h = omega arith
 
 -- let through: the part of the kept list up to the count is what was kept
 pub kept-part : (text words : List ℕ) (start : ℕ) (kept : List ℕ) {kept′ : List ℕ} {d : Door} {n : ℕ} → Prepared text words start kept d kept′ → d ≡ Ready n
@@ -61,24 +51,15 @@ kept-part text words start kept {kept′} {d} {n} p e =
 
 -- ---- records, then zeros
 
-all-wide : (w : ℕ) (rs : List (List ℕ)) → All (λ r. length r ≡ w) rs → Wide w rs
+-- records that are all as wide, as the tables' laws take them
+pub all-wide : (w : ℕ) (rs : List (List ℕ)) → All (λ r. length r ≡ w) rs → Wide w rs
 all-wide w [] h = tt
 all-wide w (r ∷ rs) h = (h .0, all-wide w rs (h .1))
 
-flat-length : (w : ℕ) (rs : List (List ℕ)) → Wide w rs → length (flatten rs) ≡ length rs * w
-unfolding flatten
-flat-length w [] h = sym (zero-mul w)
-flat-length w (r ∷ rs) h = rw (length-append, suc-mul) (omega (arith, h .0, flat-length w rs (h .1)))
-
--- a zeroed table with room for the records
-table-filled : (w : ℕ) (rs : List (List ℕ)) (len : ℕ) → 0 < w → Wide w rs → length rs ≤ len / w → putAll w (zeros len) 0 rs ≡ filled len rs
-table-filled w rs len p h room =
-    records-then-zeros w rs len p h (start-inside len (length rs) w p room) ∙ ap (λ (n : ℕ). flatten rs ++ replicate (len - n) 0) (sym (flat-length w rs h))
-
 -- no records
-pub none-filled : (len : ℕ) → zeros len ≡ filled len []
+none-left : (w : ℕ) (t u : List ℕ) → length u ≡ length t → clearedBehind w 0 u ≡ filled (length t) []
 unfolding flatten
-none-filled len = ap (λ (n : ℕ). replicate n 0) (sym (sub-zero len))
+none-left w t u same = cleared-none w u ∙ ap (λ (n : ℕ). replicate n 0) (same ∙ sym (sub-zero (length t)))
 
 -- ---- the answer
 
@@ -93,29 +74,31 @@ module _ (st ar : List ℕ) (rd : Reading) (cursor : ℕ) where
   unfolding settled plainLength
   same-answer = refl
 
-  -- the tables that the settling leaves
-  both-tables : {st₁ ar₁ : List ℕ} → st₁ ≡ putAll 8 (zeros (length st)) 0 (statementRecords 0 0 rd) → ar₁ ≡ putAll 7 (zeros (length ar)) 0 (argumentRecords rd)
+  -- the tables that the settling leaves by the answer r are those that r promises
+  abbrev TablesLeft : Body → List ℕ → List ℕ → Type 0
+  TablesLeft r st₁ ar₁ =
+      (clearedBehind 8 (getD (values r) 2 0) st₁ ≡ tableAfter r (statementRecords 0 0 rd) st) × (clearedBehind 7 (getD (values r) 3 0) ar₁ ≡ tableAfter r (argumentRecords rd) ar)
+
+  both-tables : {st₁ ar₁ : List ℕ} → st₁ ≡ putAll 8 st 0 (statementRecords 0 0 rd) → ar₁ ≡ putAll 7 ar 0 (argumentRecords rd)
       → length st₁ ≡ length st → length ar₁ ≡ length ar
-      → (tableLeft (settled rd cursor (length st) (length ar)) st₁ ≡ tableAfter (settled rd cursor (length st) (length ar)) (statementRecords 0 0 rd) st)
-      × (tableLeft (settled rd cursor (length st) (length ar)) ar₁ ≡ tableAfter (settled rd cursor (length st) (length ar)) (argumentRecords rd) ar)
+      → TablesLeft (settled rd cursor (length st) (length ar)) st₁ ar₁
   unfolding settled
   both-tables {st₁} {ar₁} es ea ls la = go (ltb (length st / 8) (statementCount rd)) refl (ltb (length ar / 7) (argumentCount rd)) refl
     where
       go : (b : Bool) → ltb (length st / 8) (statementCount rd) ≡ b → (d : Bool) → ltb (length ar / 7) (argumentCount rd) ≡ d
-          → (tableLeft (cond b (StatementsTooSmall (statementCount rd)) (cond d (ArgumentsTooSmall (argumentCount rd)) (Read cursor (statementCount rd) (argumentCount rd) (plainLength rd)))) st₁ ≡ tableAfter (cond b (StatementsTooSmall (statementCount rd)) (cond d (ArgumentsTooSmall (argumentCount rd)) (Read cursor (statementCount rd) (argumentCount rd) (plainLength rd)))) (statementRecords 0 0 rd) st)
-          × (tableLeft (cond b (StatementsTooSmall (statementCount rd)) (cond d (ArgumentsTooSmall (argumentCount rd)) (Read cursor (statementCount rd) (argumentCount rd) (plainLength rd)))) ar₁ ≡ tableAfter (cond b (StatementsTooSmall (statementCount rd)) (cond d (ArgumentsTooSmall (argumentCount rd)) (Read cursor (statementCount rd) (argumentCount rd) (plainLength rd)))) (argumentRecords rd) ar)
-      go true eb d ed = (ap zeros ls ∙ none-filled (length st), ap zeros la ∙ none-filled (length ar))
-      go false eb true ed = (ap zeros ls ∙ none-filled (length st), ap zeros la ∙ none-filled (length ar))
+          → TablesLeft (cond b (StatementsTooSmall (statementCount rd)) (cond d (ArgumentsTooSmall (argumentCount rd)) (Read cursor (statementCount rd) (argumentCount rd) (plainLength rd)))) st₁ ar₁
+      go true eb d ed = (none-left 8 st st₁ ls, none-left 7 ar ar₁ la)
+      go false eb true ed = (none-left 8 st st₁ ls, none-left 7 ar ar₁ la)
       go false eb false ed =
           let many = as-many 0 0 rd in
           let wide = as-wide 0 0 rd in (
-            es ∙ table-filled 8 (statementRecords 0 0 rd) (length st) (omega arith) (all-wide 8 (statementRecords 0 0 rd) (wide .0)) (rw (many .0) (ltb-false _ _ eb)),
-            ea ∙ table-filled 7 (argumentRecords rd) (length ar) (omega arith) (all-wide 7 (argumentRecords rd) (wide .1)) (rw (many .1) (ltb-false _ _ ed)),
+            records-then-zeros 8 (statementRecords 0 0 rd) st (omega arith) (all-wide 8 (statementRecords 0 0 rd) (wide .0)) (many .0) (ltb-false _ _ eb) es,
+            records-then-zeros 7 (argumentRecords rd) ar (omega arith) (all-wide 7 (argumentRecords rd) (wide .1)) (many .1) (ltb-false _ _ ed) ea,
           )
 
--- what the parser read into zeroed tables, settled
+-- what the parser read, settled
 pub body-read : (text words kept : List ℕ) (start : ℕ) (st ar : List ℕ) {st₁ ar₁ st₂ ar₂ : List ℕ} {x : Items} {r : Body}
-    → BodyParsed (startTally start) 0 0 (length kept) (bodyFrom base start (drop start (view text words kept))) (zeros (length st)) (zeros (length ar)) x st₁ ar₁
+    → BodyParsed (startTally start) 0 0 (length kept) (bodyFrom base start (drop start (view text words kept))) st ar x st₁ ar₁
     → length st₁ ≡ length st
     → length ar₁ ≡ length ar
     → Settled x st₁ ar₁ r st₂ ar₂
@@ -130,8 +113,8 @@ body-read text words kept start st ar {st₁} {ar₁} {st₂} {ar₂} {x} {r} v 
         let is : r ≡ Refused (number y) (q + beyond y) = w′ .answer in
         record {
           answer = is ∙ rw e;
-          statementTable = w′ .statementTable ∙ rw is (ap zeros ls ∙ none-filled (length st));
-          argumentTable = w′ .argumentTable ∙ rw is (ap zeros la ∙ none-filled (length ar));
+          statementTable = w′ .statementTable ∙ rw is (none-left 8 st st₁ ls);
+          argumentTable = w′ .argumentTable ∙ rw is (none-left 7 ar ar₁ la);
         }
     go (got rd k) e =
         let v′ = rw e at v in

@@ -1,10 +1,11 @@
--- How the entry's parts answer: the settling of what was read, and the reading of a body into zeroed tables.
+-- How the entry's parts answer: the settling of what was read, and the reading of a body into the tables as they are lent.
 use Prim.Native.Nat.{ℕ, _/_}
 use mathlib.Core.Path.{_≡_}
 use mathlib.Core.Bool.{cond}
 use mathlib.Core.List.{List}
-use lib.ListN.{length, replicate}
+use lib.ListN.{length, getD}
 use lib.Dec.{ltb}
+use Rattle.tokens.specs.Table.{clearedBehind}
 use Rattle.tokens.specs.Token.{view}
 use Rattle.grammar.specs.Rules.{base}
 use Rattle.grammar.specs.Reader.{bodyAt}
@@ -14,8 +15,8 @@ use Rattle.statements.specs.declared.item.Tally.{Tally}
 use Rattle.statements.specs.declared.item.Items.{Items}
 use Rattle.statements.specs.declared.item.Items.the-variants as items
 use Rattle.statements.specs.declared.entry.Body.{Body}
-use Rattle.statements.specs.declared.entry.Body.the-variants.{NotWellFormed, KeptTooShort, StartOutside, Refused, StatementsTooSmall, ArgumentsTooSmall, Read}
-use Rattle.statements.specs.Call.{afterReading, recordsOf, tableAfter}
+use Rattle.statements.specs.declared.entry.Body.the-variants.{Refused, StatementsTooSmall, ArgumentsTooSmall, Read}
+use Rattle.statements.specs.Call.{values, afterReading, recordsOf, tableAfter}
 
 abbrev pub lengthOf : Tally → ℕ
 lengthOf t = cond (t .plain) (t .bytes) NONE
@@ -28,20 +29,11 @@ settledItems (items.Done t) statements arguments =
     (cond (ltb (arguments / 7) (t .arguments)) (ArgumentsTooSmall (t .arguments))
     (Read (t .at) (t .statements) (t .arguments) (lengthOf t)))
 
--- a table after it: as it was where the body is read, else zero
-abbrev pub tableLeft : Body → List ℕ → List ℕ
-tableLeft (Read cursor s n size) table = table
-tableLeft (NotWellFormed at) table = replicate (length table) 0
-tableLeft (KeptTooShort count) table = replicate (length table) 0
-tableLeft (StartOutside at) table = replicate (length table) 0
-tableLeft (Refused c q) table = replicate (length table) 0
-tableLeft (StatementsTooSmall need) table = replicate (length table) 0
-tableLeft (ArgumentsTooSmall need) table = replicate (length table) 0
-
+-- what was read, settled: the answer, and each table, in which the records that the answer counts stay, none after a refusal, and zeros stand behind them
 pub record Settled (read : Items) (statements arguments : List ℕ) (r : Body) (statements′ arguments′ : List ℕ) : Type 0 where
   pub answer : r ≡ settledItems read (length statements) (length arguments)
-  pub statementTable : statements′ ≡ tableLeft r statements
-  pub argumentTable : arguments′ ≡ tableLeft r arguments
+  pub statementTable : statements′ ≡ clearedBehind 8 (getD (values r) 2 0) statements
+  pub argumentTable : arguments′ ≡ clearedBehind 7 (getD (values r) 3 0) arguments
 
 -- the body from a start of a kept list
 pub record BodyRead (text words kept : List ℕ) (start : ℕ) (statements arguments : List ℕ) (r : Body) (statements′ arguments′ : List ℕ) : Type 0 where

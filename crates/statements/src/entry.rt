@@ -4,6 +4,7 @@ use crate::item::Items;
 use crate::item::Tally;
 use tokens::Door;
 use tokens::clear;
+use tokens::clear_behind;
 use tokens::prepare;
 ghost use mathlib.Core.Path.{_≡_};
 ghost use lib.ListN.{length, replicate};
@@ -41,7 +42,8 @@ fn clear_both(statements: &mut [u32], arguments: &mut [u32])
     clear(arguments);
 }
 
-// The answer for what was read: only input that is otherwise accepted has a table called small. After every refusal both tables are zero.
+// The answer for what was read: only input that is otherwise accepted has a table called small. After every refusal both tables are zero, and else what stands
+// behind the records; what is in front was written with them, so it need not be cleared before.
 fn settle(read: Items, statements: &mut [u32], arguments: &mut [u32]) -> Body
     ensures { λ r. ⌜ Settled read (now (statements .entry)) (now (arguments .entry)) r (now (statements .exit)) (now (arguments .exit)) ⌝ }
 {
@@ -61,12 +63,14 @@ fn settle(read: Items, statements: &mut [u32], arguments: &mut [u32]) -> Body
                 clear_both(statements, arguments);
                 return Body::ArgumentsTooSmall(n);
             }
+            clear_behind(statements, m, 8);
+            clear_behind(arguments, n, 7);
             Body::Read(t.at, m, n, plain_length(t))
         }
     }
 }
 
-// The body from a start of the kept list, into tables that are zeroed first.
+// The body from a start of the kept list.
 fn reading(
     text: &[u8],
     tokens: &[u32],
@@ -78,7 +82,6 @@ fn reading(
     requires { ⌜ Place (now kept) start ⌝ }
     ensures { λ r. ⌜ BodyRead (now (text .entry)) (now (tokens .entry)) (now (kept .entry)) start (now (statements .entry)) (now (arguments .entry)) r (now (statements .exit)) (now (arguments .exit)) ⌝ }
 {
-    clear_both(statements, arguments);
     let s = Tally {
         at: start,
         statements: 0,

@@ -1,16 +1,15 @@
--- Laws of tables: records one behind the other, a record written late, records then zeros, the rest of a table lent on. Assumes nothing.
-use Prim.Native.Nat.{ℕ, zero, suc, _+_, _-_, _*_, _/_, _≤_, _<_, min}
+-- Laws of tables: records one behind the other, a record written late, the rest of a table lent on, records then zeros. Assumes nothing.
+use Prim.Native.Nat.{ℕ, suc, _+_, _-_, _*_, _/_, _≤_, _<_, min}
 use mathlib.Core.Path.{_≡_, refl, sym, ap, _∙_}
 use mathlib.Core.List.{List, [], _∷_, _++_, append-assoc, append-nil, flatten}
 use mathlib.Core.Logic.{⊎-elim}
 use native.Mathlib.Omega.{arith}
-use native.Mathlib.Numerals.{add-one}
-use native.Mathlib.Nat.{add-comm, add-zero, zero-add, add-suc, suc-add, add-assoc, suc-mul, zero-mul, sub-zero, add-mul, mul-le-mul-right, add-mul-div-right, div-lt-iff-lt-mul, le-div-iff-mul-le, le-of-eq, le-of-lt, sub-eq-zero-of-le, zero-div}
-use lib.ListN.{length, getD, take, drop, set, replicate, length-append, length-set, length-replicate, length-drop, take-append-drop, drop-of-length-le}
-use lib.Seq.{sets, length-sets, sets-eq, set-comm, take-at, drop-at, take-all, length-take-le, drop-append-add}
+use native.Mathlib.Nat.{add-comm, add-zero, zero-add, add-suc, suc-add, add-assoc, suc-mul, zero-mul, one-mul, sub-zero, add-mul, mul-le-mul-right, add-mul-div-right, div-lt-iff-lt-mul, le-div-iff-mul-le, le-of-eq, le-of-lt, sub-eq-zero-of-le, zero-div}
+use lib.ListN.{length, take, drop, set, replicate, length-append, length-drop, take-append-drop, drop-of-length-le}
+use lib.Seq.{sets, length-sets, sets-eq, set-comm, take-at, take-all, length-take-le, drop-drop}
 use borrow.Rule.Slice.PartMut.{midOf, putMid}
-use Rattle.tokens.specs.Table.{put, putAll}
-use Rattle.tokens.proofs.Laws.{lt-or-le, put-fits, put-full}
+use Rattle.tokens.specs.Table.{put, putAll, clearedBehind}
+use Rattle.tokens.proofs.Laws.{lt-or-le, put-fits, put-full, start-inside}
 
 -- ---- lengths stay
 
@@ -76,52 +75,6 @@ put-late w [] t r m n h k = refl
 put-late w (q ∷ rs) t r m n h k =
     put-late w rs (put w t n q) r m (n + 1) (omega arith) k ∙ ap (λ (l : List ℕ). putAll w l (n + 1) rs) (put-comm w t q r m n h k)
 
--- ---- records, then zeros
-
-abbrev pub zeros : ℕ → List ℕ
-zeros n = replicate n 0
-
--- every record is w words wide
-abbrev pub Wide : ℕ → List (List ℕ) → Type 0
-Wide w [] = Unit {0}
-Wide w (r ∷ rs) = (length r ≡ w) × Wide w rs
-
-drop-zeros : (n m : ℕ) → drop n (zeros (n + m)) ≡ zeros m
-drop-zeros zero m = rw zero-add
-drop-zeros (suc n) m = rw suc-add (drop-zeros n m)
-
--- one record more, where a table of records is zero from there on
-put-zeros : (w : ℕ) (pre r : List ℕ) (n m : ℕ) → 0 < w → length r ≡ w → length pre ≡ n * w → put w (pre ++ zeros (w + m)) n r ≡ (pre ++ r) ++ zeros m
-put-zeros w pre r n m p lr lp =
-    let len : length (pre ++ zeros (w + m)) ≡ n * w + (w + m) = rw (length-append, length-replicate, lp) in
-    let up : suc n * w ≤ length (pre ++ zeros (w + m)) = rw (len, suc-mul) (omega arith) in
-    let fit : n < length (pre ++ zeros (w + m)) / w = le-div-iff-mul-le p .1 up in
-    let room : n * w + length r ≤ length (pre ++ zeros (w + m)) = rw (len, lr) (omega arith) in
-    put-fits (pre ++ zeros (w + m)) r n w fit
-    ∙ sets-eq r (pre ++ zeros (w + m)) (n * w) room
-    ∙ ap (λ (l : List ℕ). l ++ r ++ drop (n * w + length r) (pre ++ zeros (w + m))) (take-at pre (zeros (w + m)) (n * w) lp)
-    ∙ ap (λ (l : List ℕ). (pre ++ r) ++ l)
-    (rw (← lp, lr) (drop-append-add pre (zeros (w + m)) w ∙ drop-zeros w m))
-
--- records written into a table that is zero from there on stand one behind the other, and zeros behind them
-pub putAll-flat : (w : ℕ) (rs : List (List ℕ)) (pre : List ℕ) (n m : ℕ) → 0 < w → Wide w rs → length pre ≡ n * w → putAll w (pre ++ zeros (length rs * w + m)) n rs ≡ pre ++ (flatten rs ++ zeros m)
-unfolding putAll flatten
-putAll-flat w [] pre n m p h lp = rw (zero-mul, zero-add)
-putAll-flat w (r ∷ rs) pre n m p h lp =
-    let all : suc (length rs) * w + m ≡ w + (length rs * w + m) = rw suc-mul (omega arith) in
-    let next : length (pre ++ r) ≡ (n + 1) * w = rw (length-append, lp, h .0, add-one, suc-mul) in
-    ap (λ (k : ℕ). putAll w (put w (pre ++ zeros k) n r) (n + 1) rs) all
-    ∙ ap (λ (l : List ℕ). putAll w l (n + 1) rs) (put-zeros w pre r n (length rs * w + m) p (h .0) lp)
-    ∙ putAll-flat w rs (pre ++ r) (n + 1) m p (h .1) next
-    ∙ append-assoc pre r (flatten rs ++ zeros m)
-    ∙ ap (λ (l : List ℕ). pre ++ l) (sym (append-assoc r (flatten rs) (zeros m)))
-
--- a table that was zeroed and has room: its records, then zeros
-pub records-then-zeros : (w : ℕ) (rs : List (List ℕ)) (len : ℕ) → 0 < w → Wide w rs → length rs * w ≤ len → putAll w (zeros len) 0 rs ≡ flatten rs ++ zeros (len - length rs * w)
-records-then-zeros w rs len p h room =
-    let all : len ≡ length rs * w + (len - length rs * w) = omega arith in
-    ap (λ (k : ℕ). putAll w (zeros k) 0 rs) all ∙ putAll-flat w rs [] 0 (len - length rs * w) p h (rw zero-mul)
-
 -- ---- the rest of a table lent on
 
 set-behind : (p s : List ℕ) (i a : ℕ) → set (p ++ s) (length p + i) a ≡ p ++ set s i a
@@ -169,16 +122,22 @@ unfolding putAll
 putAll-past w [] t n h = refl
 putAll-past w (r ∷ rs) t n h = rw (put-full t r n w h) (putAll-past w rs t (n + 1) (omega arith))
 
+-- what is lent is what lies from a on, and what comes back stands there
+lent-is : (t : List ℕ) (a : ℕ) → midOf a (length t - a) t ≡ drop a t
+lent-is t a = take-all (length t - a) (drop a t) (le-of-eq (length-drop a t))
+
+back-is : (t u : List ℕ) (a : ℕ) → putMid a (length t - a) t u ≡ take a t ++ u
+back-is t u a =
+    let rest : drop (length t - a) (drop a t) ≡ [] = drop-of-length-le (drop a t) (le-of-eq (length-drop a t)) in
+    rw (rest, append-nil)
+
 -- what a reader writes into the rest of a table from record n on, counting from 0, is written into the table from n on
 pub rest-written : (w : ℕ) (rs : List (List ℕ)) (t : List ℕ) (n a : ℕ) → 0 < w → a ≡ min (n * w) (length t) → putMid a (length t - a) t (putAll w (midOf a (length t - a) t) 0 rs) ≡ putAll w t n rs
-rest-written w rs t n a pos e = opened ∙ ⊎-elim past inside (lt-or-le (length t) (n * w))
+rest-written w rs t n a pos e =
+    back-is t (putAll w (midOf a (length t - a) t) 0 rs) a
+    ∙ ap (λ (l : List ℕ). take a t ++ putAll w l 0 rs) (lent-is t a)
+    ∙ ⊎-elim past inside (lt-or-le (length t) (n * w))
   where
-    opened : putMid a (length t - a) t (putAll w (midOf a (length t - a) t) 0 rs) ≡ take a t ++ putAll w (drop a t) 0 rs
-    opened =
-        let all : take (length t - a) (drop a t) ≡ drop a t = take-all (length t - a) (drop a t) (le-of-eq (length-drop a t)) in
-        let rest : drop (length t - a) (drop a t) ≡ [] = drop-of-length-le (drop a t) (le-of-eq (length-drop a t)) in
-        rw (all, rest, append-nil)
-
     past : length t < n * w → take a t ++ putAll w (drop a t) 0 rs ≡ putAll w t n rs
     past h =
         let end : length t ≤ a = omega arith in
@@ -192,3 +151,75 @@ rest-written w rs t n a pos e = opened ∙ ⊎-elim past inside (lt-or-le (lengt
         let lead : length (take a t) ≡ n * w = length-take-le a t (omega arith) ∙ at in
         sym (putAll-behind w rs (take a t) (drop a t) n 0 pos lead)
         ∙ rw (add-zero, take-append-drop)
+
+-- zeros in the rest of a table from record n on
+pub rest-cleared : (w n : ℕ) (t : List ℕ) (a : ℕ) → a ≡ min (n * w) (length t) → putMid a (length t - a) t (replicate (length (midOf a (length t - a) t)) 0) ≡ clearedBehind w n t
+unfolding clearedBehind
+rest-cleared w n t a e =
+    back-is t (replicate (length (midOf a (length t - a) t)) 0) a
+    ∙ ap (λ (l : List ℕ). take a t ++ replicate (length l) 0) (lent-is t a)
+    ∙ ap (λ (k : ℕ). take a t ++ replicate k 0) (length-drop a t)
+    ∙ ⊎-elim past inside (lt-or-le (length t) (n * w))
+  where
+    past : length t < n * w → take a t ++ replicate (length t - a) 0 ≡ take (n * w) t ++ replicate (length t - n * w) 0
+    past h =
+        let end : length t ≤ a = omega arith in
+        let none : length t - a ≡ length t - n * w = omega arith in
+        rw (take-all a t end, take-all (n * w) t (le-of-lt h), none)
+
+    inside : n * w ≤ length t → take a t ++ replicate (length t - a) 0 ≡ take (n * w) t ++ replicate (length t - n * w) 0
+    inside h =
+        let at : a ≡ n * w = omega arith in
+        rw at
+
+-- ---- records, then zeros
+
+-- behind no records: all of the table
+pub cleared-none : (w : ℕ) (t : List ℕ) → clearedBehind w 0 t ≡ replicate (length t) 0
+unfolding clearedBehind
+cleared-none w t = rw (zero-mul, sub-zero)
+
+-- every record is w words wide
+abbrev pub Wide : ℕ → List (List ℕ) → Type 0
+Wide w [] = Unit {0}
+Wide w (r ∷ rs) = (length r ≡ w) × Wide w rs
+
+-- so many words
+flat-length : (w : ℕ) (rs : List (List ℕ)) → Wide w rs → length (flatten rs) ≡ length rs * w
+unfolding flatten
+flat-length w [] h = sym (zero-mul w)
+flat-length w (r ∷ rs) h = rw (length-append, suc-mul) (omega (arith, h .0, flat-length w rs (h .1)))
+
+-- the first record of a table
+put-first : (w : ℕ) (t r : List ℕ) → 0 < w → length r ≡ w → w ≤ length t → put w t 0 r ≡ r ++ drop w t
+put-first w t r pos lr room =
+    let up : 1 * w ≤ length t = rw one-mul room in
+    put-fits t r 0 w (le-div-iff-mul-le pos .1 up)
+    ∙ ap (λ (i : ℕ). sets t i r) (zero-mul w)
+    ∙ sets-eq r t 0 (rw (zero-add, lr) room)
+    ∙ ap (λ (i : ℕ). r ++ drop i t) (zero-add (length r) ∙ lr)
+
+-- records from the first on stand one behind the other, where there is room for all, and what lies behind them is as it was
+putAll-flat : (w : ℕ) (rs : List (List ℕ)) (t : List ℕ) → 0 < w → Wide w rs → length rs * w ≤ length t → putAll w t 0 rs ≡ flatten rs ++ drop (length rs * w) t
+unfolding putAll flatten
+putAll-flat w [] t pos h room = rw zero-mul
+putAll-flat w (r ∷ rs) t pos h room =
+    let all : w + length rs * w ≤ length t = omega (arith, suc-mul (length rs) w) in
+    let rest : length rs * w ≤ length (drop w t) = rw length-drop (omega arith) in
+    ap (λ (l : List ℕ). putAll w l 1 rs) (put-first w t r pos (h .0) (omega arith))
+    ∙ putAll-behind w rs r (drop w t) 1 0 pos (h .0 ∙ sym (one-mul w))
+    ∙ ap (λ (l : List ℕ). r ++ l) (putAll-flat w rs (drop w t) pos (h .1) rest)
+    ∙ ap (λ (l : List ℕ). r ++ (flatten rs ++ l)) (drop-drop (length rs * w) w t)
+    ∙ rw (suc-mul, add-comm (length rs * w) w) (sym (append-assoc r (flatten rs) (drop (w + length rs * w) t)))
+
+-- a table with room for k records, into which they were written, cleared behind them: the records, then zeros, whatever it held before
+pub records-then-zeros : (w : ℕ) (rs : List (List ℕ)) (t : List ℕ) {u : List ℕ} {k : ℕ} → 0 < w → Wide w rs → length rs ≡ k → k ≤ length t / w → u ≡ putAll w t 0 rs
+    → clearedBehind w k u ≡ flatten rs ++ replicate (length t - length (flatten rs)) 0
+unfolding clearedBehind
+records-then-zeros w rs t {u} {k} pos h many room e =
+    let long : length (flatten rs) ≡ k * w = flat-length w rs h ∙ ap (λ (n : ℕ). n * w) many in
+    let flat : u ≡ flatten rs ++ drop (length rs * w) t = e ∙ putAll-flat w rs t pos h (rw many (start-inside (length t) k w pos room)) in
+    ap (λ (n : ℕ). take (k * w) u ++ replicate (n - k * w) 0) (ap length e ∙ putAll-length w t 0 rs)
+    ∙ ap (λ (l : List ℕ). take (k * w) l ++ replicate (length t - k * w) 0) flat
+    ∙ ap (λ (l : List ℕ). l ++ replicate (length t - k * w) 0) (take-at (flatten rs) (drop (length rs * w) t) (k * w) long)
+    ∙ ap (λ (n : ℕ). flatten rs ++ replicate (length t - n) 0) (sym long)

@@ -19,6 +19,7 @@ pub use push::is_value_push;
 pub use push::push_overflows;
 pub use push::push_size;
 pub use table::clear;
+pub use table::clear_behind;
 pub use table::put_record;
 pub use table::start_of;
 pub use token::end_at;

@@ -3,7 +3,7 @@ ghost use mathlib.Core.Path.{_≡_};
 ghost use Prim.Native.Nat.{_+_, _*_, _≤_, min};
 ghost use lib.ListN.{length, replicate};
 ghost use lib.Seq.{sets};
-ghost use Rattle.tokens.specs.Table.{put};
+ghost use Rattle.tokens.specs.Table.{put, clearedBehind};
 
 // Words one behind the other, where there is room for all.
 fn put_words(table: &mut [u32], at: usize, words: &[u32])
@@ -49,4 +49,12 @@ pub fn start_of(len: usize, n: usize, w: usize) -> usize
         return 0;
     }
     if n <= len / w { n * w } else { len }
+}
+
+// Every word behind the first n records of w words 0.
+pub fn clear_behind(table: &mut [u32], n: usize, w: usize)
+    ensures { λ _. ⌜ now (table .exit) ≡ clearedBehind w n (now (table .entry)) ⌝ }
+{
+    let x = start_of(table.len(), n, w);
+    clear(&mut table[x..]);
 }

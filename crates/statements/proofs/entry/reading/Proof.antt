@@ -4,9 +4,6 @@ use borrow.Author.Needs.{needs}
 use Rattle.statements.proofs.entry.reading.Statement.{statement}
 use Rattle.statements.proofs.entry.reading.Tie as tie
 
-clear-both-requires : tie.Need-clear-both-requires
-clear-both-requires c κs = search needs
-
 parse-body-requires : tie.Need-parse-body-requires
 parse-body-requires c κs = search needs
 
@@ -21,17 +18,9 @@ same-length-2 c = search needs
 
 returns : tie.Need-returns
 returns c =
-    let a = c .before .before .before .before .before .before .before .before .before .before .before .before .before .before .before .before .before .before .before .before .before .before .before .before .before .before .args in
-    let z = c .before .before .before .before .before .before .before .before .before .before .before .before .before .before .before .before .before .before .clear-both .ensures in
-    body-read (now (a .text)) (now (a .tokens)) (now (a .kept)) (a .start) (now (a .statements)) (now (a .arguments)) (rw (z .0, z .1) at (c .before .before .before .before .before .before .before .before .before .before .before .parse-body .ensures)) (search needs) (search needs) (c .before .before .before .before .settle .ensures)
+    let a = c .before .before .before .before .before .before .before .before .before .before .before .before .before .before .before .before .before .before .before .args in
+    body-read (now (a .text)) (now (a .tokens)) (now (a .kept)) (a .start) (now (a .statements)) (now (a .arguments)) (c .before .before .before .before .before .before .before .before .before .before .before .parse-body .ensures) (search needs) (search needs) (c .before .before .before .before .settle .ensures)
 
 pub reading-spec : {M : Type 1} → statement M
 reading-spec =
-    tie.close
-    (tie.spec
-    clear-both-requires
-    parse-body-requires
-    settle-requires
-    same-length
-    same-length-2
-    returns)
+    tie.close (tie.spec parse-body-requires settle-requires same-length same-length-2 returns)
