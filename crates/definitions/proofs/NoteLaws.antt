@@ -1,15 +1,17 @@
--- Laws of remembered names: the hash by four bytes and by one, the buckets, the walk a name at a time, a bucket without a mark, one name more. Assumes nothing.
-use Prim.Native.Nat.{ℕ, zero, suc, _+_, _-_, _*_, _/_, _≤_, _<_}
+-- Laws of remembered names: the hash by four bytes and by one, bits, the marks, the walk a name at a time, a bit that is not set, one name more. Assumes nothing.
+use Prim.Native.Nat.{ℕ, zero, suc, _+_, _-_, _*_, _/_, _%_, _≤_, _<_, zero-le, min, max}
 use mathlib.Core.Path.{_≡_, refl, sym, ap, _∙_}
 use mathlib.Core.Bool.{Bool, true, false}
 use mathlib.Core.List.{List, [], _∷_}
 use mathlib.Core.Logic.{⊎-elim}
 use native.Mathlib.Omega.{arith}
 use native.Mathlib.Numerals.{add-one}
-use native.Mathlib.Nat.{eq-or-lt-of-le}
+use native.Mathlib.Nat.{eq-or-lt-of-le, le-trans}
 use borrow.Author.Tests.{eqb-true, eqb-false}
 use lib.Dec.{eqb}
-use lib.Bits.{and-le-r}
+use lib.Arith.{bin-ind}
+use lib.Pow.{pow-pos}
+use lib.Bits.{bitAnd, bitOr, and-step, or-step, or-shr, and-le-r, and-self}
 use lib.ListN.{length, getD, drop, set, length-set, length-drop, drop-of-length-le}
 use lib.Seq.{drop-cons, getD-set-same, getD-set-other}
 use Rattle.tokens.specs.Token.{Token, tokenAt, view, textAt}
@@ -17,7 +19,7 @@ use Rattle.tokens.specs.Byte.{same}
 use Rattle.tokens.specs.Name.{oneOf}
 use Rattle.tokens.proofs.NameLaws.{same-equal}
 use Rattle.tokens.proofs.ViewLaws.{view-text}
-use Rattle.definitions.specs.Names.{mixed, hashFrom, hashOf, bucket, mark, nameAt, namesAt, Noted, Noting}
+use Rattle.definitions.specs.Names.{mixed, hashFrom, hashOf, markByte, markBit, setBit, mark, nameAt, namesAt, Noted, Noting}
 
 -- ---- the hash
 
@@ -66,44 +68,106 @@ pub hash-end : (h i : ℕ) (name : List ℕ) → length name ≤ i → hashFrom 
 unfolding hashFrom
 hash-end h i name le = rw (drop-of-length-le name le)
 
--- ---- the buckets
+-- ---- bits
 
-pub bucket-inside : (high : Bool) (size h : ℕ) → 2 ≤ size → bucket high size h < size
-unfolding bucket
-bucket-inside false size h some = let below = and-le-r h (size / 2 - 1) in omega arith
-bucket-inside true size h some = let below = and-le-r (h / 65536) (size / 2 - 1) in omega arith
+-- half of an `or`, and its last digit
+or-half : (m r : ℕ) → bitOr m r / 2 ≡ bitOr (m / 2) (r / 2)
+or-half m r = or-shr m r 1
 
--- a mark stays where another is set
-stays : (marks : List ℕ) (b k : ℕ) → k < length marks → getD marks b 0 ≡ 1 → getD (set marks k 1) b 0 ≡ 1
-stays marks b k inside e = go (eqb b k) refl
+or-odd : (m r : ℕ) → bitOr m r % 2 ≡ max (m % 2) (r % 2)
+or-odd m r = ap (λ (x : ℕ). x % 2) (or-step m r) ∙ digit (bitOr (m / 2) (r / 2)) (m % 2) (r % 2) (omega arith) (omega arith)
   where
-    go : (t : Bool) → eqb b k ≡ t → getD (set marks k 1) b 0 ≡ 1
-    go true x = rw (eqb-true b k x) (getD-set-same marks k 1 0 inside)
-    go false x = getD-set-other marks k b 1 0 (eqb-false b k x) ∙ e
+    digit : (a x y : ℕ) → x < 2 → y < 2 → (a * 2 + max x y) % 2 ≡ max x y
+    digit a x y hx hy = omega arith
+
+-- the digits of an `and` with an `or`
+and-or-step : (m r q : ℕ) → bitAnd (bitOr m r) q ≡ bitAnd (bitOr (m / 2) (r / 2)) (q / 2) * 2 + min (max (m % 2) (r % 2)) (q % 2)
+and-or-step m r q = and-step (bitOr m r) q ∙ rw (or-half m r, or-odd m r) refl
+
+-- setting bits keeps those that are set
+or-keeps : (m r q : ℕ) → bitAnd m q ≤ bitAnd (bitOr m r) q
+or-keeps =
+    bin-ind (λ (m : ℕ). (r q : ℕ) → bitAnd m q ≤ bitAnd (bitOr m r) q) (λ r q. zero-le)
+    (λ m ih r q. digit (m % 2) (r % 2) (q % 2) (and-step m q) (and-or-step m r q) (ih (r / 2) (q / 2)))
+  where
+    digit : {a b c d : ℕ} (x y z : ℕ) → a ≡ c * 2 + min x z → b ≡ d * 2 + min (max x y) z → c ≤ d → a ≤ b
+    digit x y z e f le = omega arith
+
+-- the bits that are set by it are set
+or-sets : (m q : ℕ) → bitAnd (bitOr m q) q ≡ q
+or-sets =
+    bin-ind (λ (m : ℕ). (q : ℕ) → bitAnd (bitOr m q) q ≡ q) and-self
+    (λ m ih q. digit q (m % 2) (and-or-step m q q) (ih (q / 2)))
+  where
+    digit : {a b : ℕ} (q x : ℕ) → a ≡ b * 2 + min (max x (q % 2)) (q % 2) → b ≡ q / 2 → a ≡ q
+    digit q x e f = omega arith
+
+-- ---- the marks
+
+pub byte-inside : (high : Bool) (size h : ℕ) → 2 ≤ size → markByte high size h < size
+unfolding markByte
+byte-inside false size h some = let below = and-le-r (h / 8) (size / 2 - 1) in omega arith
+byte-inside true size h some = let below = and-le-r (h / 524288) (size / 2 - 1) in omega arith
+
+bit-some : (high : Bool) (h : ℕ) → 0 < markBit high h
+unfolding markBit
+bit-some false h = pow-pos (h % 8)
+bit-some true h = pow-pos (h / 65536 % 8)
+
+module _ (marks : List ℕ) (k r : ℕ) (inside : k < length marks) where
+  -- a bit that was set stays so where one is set
+  stays : (b q : ℕ) → 0 < bitAnd (getD marks b 0) q → 0 < bitAnd (getD (setBit marks k r) b 0) q
+  stays b q some = go (eqb b k) refl
+    where
+      go : (t : Bool) → eqb b k ≡ t → 0 < bitAnd (getD (setBit marks k r) b 0) q
+      go true x =
+          rw (eqb-true b k x, getD-set-same marks k (bitOr (getD marks k 0) r) 0 inside)
+          (le-trans (rw (eqb-true b k x) at some) (or-keeps (getD marks k 0) r q))
+      go false x = rw (getD-set-other marks k b (bitOr (getD marks k 0) r) 0 (eqb-false b k x)) some
+
+  -- the bit itself is set then
+  sets-own : 0 < r → 0 < bitAnd (getD (setBit marks k r) k 0) r
+  sets-own some = rw (getD-set-same marks k (bitOr (getD marks k 0) r) 0 inside, or-sets (getD marks k 0) r) some
 
 module _ (marks : List ℕ) (h : ℕ) where
   abbrev own : Bool → ℕ
-  own high = bucket high (length marks) h
+  own high = markByte high (length marks) h
+
+  abbrev lower : List ℕ
+  lower = setBit marks (own false) (markBit false h)
+
+  length-lower : length lower ≡ length marks
+  length-lower = length-set marks (own false) (bitOr (getD marks (own false) 0) (markBit false h))
 
   length-mark : length (mark marks h) ≡ length marks
   unfolding mark
-  length-mark = length-set (set marks (own false) 1) (own true) 1 ∙ length-set marks (own false) 1
+  length-mark = length-set lower (own true) (bitOr (getD lower (own true) 0) (markBit true h)) ∙ length-lower
 
   module _ (some : 2 ≤ length marks) where
     inside : (high : Bool) → own high < length marks
-    inside high = bucket-inside high (length marks) h some
+    inside high = byte-inside high (length marks) h some
 
-    inside′ : own true < length (set marks (own false) 1)
-    inside′ = rw length-set (inside true)
+    inside′ : own true < length lower
+    inside′ = rw length-lower (inside true)
 
-    mark-stays : (b : ℕ) → getD marks b 0 ≡ 1 → getD (mark marks h) b 0 ≡ 1
+    mark-stays : (b q : ℕ) → 0 < bitAnd (getD marks b 0) q → 0 < bitAnd (getD (mark marks h) b 0) q
     unfolding mark
-    mark-stays b e = stays (set marks (own false) 1) b (own true) inside′ (stays marks b (own false) (inside false) e)
+    mark-stays b q e = stays lower (own true) (markBit true h) inside′ b q (stays marks (own false) (markBit false h) (inside false) b q e)
 
-    mark-own : (high : Bool) → getD (mark marks h) (own high) 0 ≡ 1
+    mark-own : (high : Bool) → 0 < bitAnd (getD (mark marks h) (own high) 0) (markBit high h)
     unfolding mark
-    mark-own false = stays (set marks (own false) 1) (own false) (own true) inside′ (getD-set-same marks (own false) 1 0 (inside false))
-    mark-own true = getD-set-same (set marks (own false) 1) (own true) 1 0 inside′
+    mark-own false =
+        stays lower (own true) (markBit true h) inside′ (own false) (markBit false h)
+        (sets-own marks (own false) (markBit false h) (inside false) (bit-some false h))
+    mark-own true = sets-own lower (own true) (markBit true h) inside′ (bit-some true h)
+
+-- what the code stores, the second byte found among the marks with the first bit set
+pub mark-is : (marks : List ℕ) (h : ℕ) {b c q r : ℕ} → b ≡ markByte false (length marks) h → q ≡ markBit false h
+    → c ≡ markByte true (length (setBit marks b q)) h → r ≡ markBit true h → setBit (setBit marks b q) c r ≡ mark marks h
+unfolding mark
+mark-is marks h {b} {c} {q} {r} low bit high bit′ =
+    let there : c ≡ markByte true (length marks) h = high ∙ ap (λ (n : ℕ). markByte true n h) (length-set marks b (bitOr (getD marks b 0) q)) in
+    rw (there, bit′, low, bit) refl
 
 -- ---- the walk
 
@@ -136,15 +200,16 @@ module _ (all : List Token) (places name : List ℕ) where
     pub hash-tells : (j : ℕ) → j < n → (getD hashes j 0 ≡ h → ⊥) → same (nameAt all places j) name ≡ false
     hash-tells j lt other = other-hash (nameAt all places j) name (λ e. other (noted .hashed j lt ∙ e ∙ sym is))
 
-    -- a bucket without a mark tells that every earlier name is another
-    pub unmarked : (high : Bool) {b : ℕ} → b ≡ bucket high (length marks) h → getD marks b 0 ≡ 0 → oneOf (namesAt all places n) name ≡ false
-    unmarked high {b} own none = go n (omega arith)
+    -- a bit that is not set tells that every earlier name is another
+    pub unmarked : (high : Bool) {b q : ℕ} → b ≡ markByte high (length marks) h → q ≡ markBit high h → bitAnd (getD marks b 0) q ≡ 0
+        → oneOf (namesAt all places n) name ≡ false
+    unmarked high {b} {q} own bit none = go n (omega arith)
       where
         clash : (j : ℕ) → j < n → hashOf (nameAt all places j) ≡ hashOf name → ⊥
         clash j lt e =
             let one = noted .marked high j lt in
             let same-hash : hashOf (nameAt all places j) ≡ h = e ∙ sym is in
-            let two : getD marks b 0 ≡ 1 = rw (own, ← same-hash) one in
+            let two : 0 < bitAnd (getD marks b 0) q = rw (own, bit, ← same-hash) one in
             omega arith
 
         go : (k : ℕ) → k ≤ n → oneOf (namesAt all places k) name ≡ false
@@ -199,12 +264,13 @@ module _ (all : List Token) (marks places hashes : List ℕ) (n p h : ℕ) where
         down : (j n : ℕ) → j < suc n → j ≤ n
         down j n lt = omega arith
 
-    -- the buckets of the new name are marked, and every mark before stays
-    marked′ : (high : Bool) (j : ℕ) → j < suc n → getD (mark marks h) (bucket high (length marks) (hashOf (nameAt all places′ j))) 0 ≡ 1
+    -- both bits of the new name are set, and every bit before stays
+    marked′ : (high : Bool) (j : ℕ) → j < suc n
+        → 0 < bitAnd (getD (mark marks h) (markByte high (length marks) (hashOf (nameAt all places′ j))) 0) (markBit high (hashOf (nameAt all places′ j)))
     marked′ high j lt =
         ⊎-elim
         (λ (e : j ≡ n). rw (e, newest, ← is) (mark-own marks h (noted .buckets) high))
-        (λ (l : j < n). rw (earlier j l) (mark-stays marks h (noted .buckets) _ (noted .marked high j l)))
+        (λ (l : j < n). rw (earlier j l) (mark-stays marks h (noted .buckets) _ _ (noted .marked high j l)))
         (eq-or-lt-of-le (down j n lt))
       where
         down : (j n : ℕ) → j < suc n → j ≤ n

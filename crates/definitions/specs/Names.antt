@@ -1,10 +1,10 @@
 -- Names of macros, fns and tests behind one another: the places that are remembered, and what lets the code answer "no earlier one has this name" without
 -- looking at each.
-use Prim.Native.Nat.{ℕ, zero, suc, _+_, _-_, _*_, _/_, _%_, _≤_, _<_}
+use Prim.Native.Nat.{ℕ, zero, suc, _+_, _-_, _*_, _/_, _%_, _^_, _≤_, _<_}
 use mathlib.Core.Path.{_≡_}
 use mathlib.Core.Bool.{Bool, true, false}
 use mathlib.Core.List.{List, [], _∷_}
-use lib.Bits.{bitAnd}
+use lib.Bits.{bitAnd, bitOr}
 use lib.ListN.{length, getD, set}
 use Rattle.tokens.specs.Token.{Token, tokenAt}
 use Rattle.tokens.specs.Name.{oneOf}
@@ -24,14 +24,23 @@ hashFrom h (a ∷ b ∷ c ∷ d ∷ bs) = hashFrom (mixed (h + a + b * 256 + c *
 abbrev pub hashOf : List ℕ → ℕ
 hashOf name = hashFrom 0 name
 
--- the two buckets of a hash among so many: one in the first half, by its low bits, and one in the second half, by its high bits
-unfoldable pub bucket : Bool → ℕ → ℕ → ℕ
-bucket false size h = bitAnd h (size / 2 - 1)
-bucket true size h = size / 2 + bitAnd (h / 65536) (size / 2 - 1)
+-- the byte of a hash's mark among so many: in the first half by its low bits, in the second by its high bits; three bits of them name the bit
+unfoldable pub markByte : Bool → ℕ → ℕ → ℕ
+markByte false size h = bitAnd (h / 8) (size / 2 - 1)
+markByte true size h = size / 2 + bitAnd (h / 524288) (size / 2 - 1)
 
--- both are marked
+-- its bit there
+unfoldable pub markBit : Bool → ℕ → ℕ
+markBit false h = 2 ^ (h % 8)
+markBit true h = 2 ^ (h / 65536 % 8)
+
+-- a byte with one bit of it set, the others as they were
+abbrev pub setBit : List ℕ → ℕ → ℕ → List ℕ
+setBit marks b q = set marks b (bitOr (getD marks b 0) q)
+
+-- both bits are set, the low one first
 unfoldable pub mark : List ℕ → ℕ → List ℕ
-mark marks h = set (set marks (bucket false (length marks) h) 1) (bucket true (length marks) h) 1
+mark marks h = setBit (setBit marks (markByte false (length marks) h) (markBit false h)) (markByte true (length marks) h) (markBit true h)
 
 -- the name at remembered place number j
 abbrev pub nameAt : List Token → List ℕ → ℕ → List ℕ
@@ -42,13 +51,14 @@ unfoldable pub namesAt : List Token → List ℕ → ℕ → List (List ℕ)
 namesAt all places zero = []
 namesAt all places (suc n) = nameAt all places n ∷ namesAt all places n
 
--- what stands beside n remembered places: the hash of each name, and a mark in both buckets of each. Of other buckets nothing is said
+-- what stands beside n remembered places: the hash of each name, and both bits of each, which are set. Of other bits nothing is said
 pub record Noted (all : List Token) (marks places hashes : List ℕ) (n : ℕ) : Type 0 where
   pub placed : n ≤ length places
   pub stored : n ≤ length hashes
   pub buckets : 2 ≤ length marks
   pub hashed : (j : ℕ) → j < n → getD hashes j 0 ≡ hashOf (nameAt all places j)
-  pub marked : (high : Bool) (j : ℕ) → j < n → getD marks (bucket high (length marks) (hashOf (nameAt all places j))) 0 ≡ 1
+  pub marked : (high : Bool) (j : ℕ) → j < n →
+      0 < bitAnd (getD marks (markByte high (length marks) (hashOf (nameAt all places j))) 0) (markBit high (hashOf (nameAt all places j)))
 
 -- one name more is remembered, unless an earlier one is the same
 abbrev pub Noting : Bool → List Token → List ℕ → List ℕ → ℕ → List ℕ → List ℕ → List ℕ → ℕ → Type 0

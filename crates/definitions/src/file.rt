@@ -134,7 +134,7 @@ fn parse_few(
         (now (definitions .entry)) (now (statements .entry)) (now (arguments .entry)) r
         (now (definitions .exit)) (now (statements .exit)) (now (arguments .exit)) ⌝ }
 {
-    let mut marks = [0u8; 4096];
+    let mut marks = [0u8; 512];
     let mut places = [0usize; 192];
     let mut hashes = [0u32; 192];
     parse(
@@ -165,7 +165,7 @@ fn parse_some(
         (now (definitions .entry)) (now (statements .entry)) (now (arguments .entry)) r
         (now (definitions .exit)) (now (statements .exit)) (now (arguments .exit)) ⌝ }
 {
-    let mut marks = [0u8; 32768];
+    let mut marks = [0u8; 4096];
     let mut places = [0usize; 1536];
     let mut hashes = [0u32; 1536];
     parse(
@@ -195,7 +195,7 @@ fn parse_many(
         (now (definitions .entry)) (now (statements .entry)) (now (arguments .entry)) r
         (now (definitions .exit)) (now (statements .exit)) (now (arguments .exit)) ⌝ }
 {
-    let mut marks = [0u8; 131072];
+    let mut marks = [0u8; 16384];
     let mut places = [0usize; 8192];
     let mut hashes = [0u32; 8192];
     parse(

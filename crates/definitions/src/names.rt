@@ -1,18 +1,18 @@
 // Names of macros, fns and tests: the Rust's `check_duplicate_macro`, byte for byte.
 //
-// A walk over all earlier names for each macro would make the time grow with the square of their number. So each earlier name leaves a mark in two buckets,
-// one by the low bits of its hash and one by the high bits, and where a bucket of a new name has no mark, no earlier one is the same. Only where both have
-// one are the earlier names walked, and of those only the bytes of a name with the same hash are compared. With one mark for each name a new name would meet
+// A walk over all earlier names for each macro would make the time grow with the square of their number. So each earlier name leaves two marks, a bit by the
+// low bits of its hash and a bit by the high ones, and where one of a new name's two is not set, no earlier one is the same. Only where both are
+// set are the earlier names walked, and of those only the bytes of a name with the same hash are compared. With one mark for each name a new name would meet
 // another's too often; that it meets one in both halves is rare. The marks need not be clear at the start: a wrong one costs a walk, and no answer.
 use tokens::same_name;
 use tokens::text_at;
-ghost use Prim.Native.Nat.{_≤_, _<_};
+ghost use Prim.Native.Nat.{_%_, _^_, _≤_, _<_};
 ghost use mathlib.Core.Path.{_≡_};
 ghost use mathlib.Core.Bool.{true, false};
 ghost use lib.ListN.{length, set};
 ghost use Rattle.tokens.specs.Token.{view, tokenAt};
 ghost use Rattle.tokens.specs.Name.{oneOf};
-ghost use Rattle.definitions.specs.Names.{mixed, hashOf, bucket, mark, namesAt, Noted, Checked};
+ghost use Rattle.definitions.specs.Names.{mixed, hashOf, markByte, mark, namesAt, Noted, Checked};
 
 // A number mixed into the next hash: what stands in the low bits reaches the high ones by the product, and what stands in the high bits of it reaches
 // the low ones by the quotient. Both moduli and the divisor are powers of two, so that they cost no division.
@@ -46,23 +46,30 @@ fn hash_of(name: &[u8]) -> u32
     h as u32
 }
 
-// The bucket of a hash in the first half of so many, by its low bits: a mask, and no division, where the size is a power of two.
-fn low_bucket(h: u32, size: usize) -> usize
+// The byte of a hash's mark in the first half of so many, by its low bits but three: a mask, and no division, where the size is a power of two.
+fn low_byte(h: u32, size: usize) -> usize
     requires { ⌜ 2 ≤ size ⌝ }
-    ensures { λ r. ⌜ r ≡ bucket false size h ⌝ }
+    ensures { λ r. ⌜ r ≡ markByte false size h ⌝ }
     ensures { λ r. ⌜ r < size ⌝ }
 {
-    h as usize & (size / 2 - 1)
+    h as usize / 8 & (size / 2 - 1)
 }
 
-// Its bucket in the second half, by its high bits.
-fn high_bucket(h: u32, size: usize) -> usize
+// That of its mark in the second half, by its high bits but three.
+fn high_byte(h: u32, size: usize) -> usize
     requires { ⌜ 2 ≤ size ⌝ }
-    ensures { λ r. ⌜ r ≡ bucket true size h ⌝ }
+    ensures { λ r. ⌜ r ≡ markByte true size h ⌝ }
     ensures { λ r. ⌜ r < size ⌝ }
 {
     let half = size / 2;
-    half + (h as usize / 65536 & (half - 1))
+    half + (h as usize / 524288 & (half - 1))
+}
+
+// The bit of a byte that three bits name.
+fn bit_of(b: u32) -> u8
+    ensures { λ r. ⌜ r ≡ 2 ^ (b % 8) ⌝ }
+{
+    1u8 << (b % 8)
 }
 
 // One of the first n remembered names is the same: the plain search, the last one first.
@@ -93,7 +100,7 @@ fn is_remembered(
     false
 }
 
-// The same, and no walk where a bucket of the name has no mark.
+// The same, and no walk where one of the name's two bits is not set.
 fn is_repeated(
     text: &[u8],
     tokens: &[u32],
@@ -109,12 +116,12 @@ fn is_repeated(
     requires { ⌜ h ≡ hashOf (now name) ⌝ }
     ensures { λ r. ⌜ r ≡ oneOf (namesAt (view (now (text .entry)) (now (tokens .entry)) (now (kept .entry))) (now (places .entry)) n) (now (name .entry)) ⌝ }
 {
-    let low = low_bucket(h, marks.len());
-    if marks[low] == 0 {
+    let low = low_byte(h, marks.len());
+    if marks[low] & bit_of(h) == 0 {
         return false;
     }
-    let high = high_bucket(h, marks.len());
-    if marks[high] == 0 {
+    let high = high_byte(h, marks.len());
+    if marks[high] & bit_of(h / 65536) == 0 {
         return false;
     }
     is_remembered(text, tokens, kept, name, h, marks, places, hashes, n)
@@ -127,10 +134,10 @@ fn remember(p: usize, h: u32, marks: &mut [u8], places: &mut [usize], hashes: &m
         × (now (places .exit) ≡ set (now (places .entry)) n p)
         × (now (hashes .exit) ≡ set (now (hashes .entry)) n h) ⌝ }
 {
-    let low = low_bucket(h, marks.len());
-    let high = high_bucket(h, marks.len());
-    marks[low] = 1;
-    marks[high] = 1;
+    let low = low_byte(h, marks.len());
+    marks[low] = marks[low] | bit_of(h);
+    let high = high_byte(h, marks.len());
+    marks[high] = marks[high] | bit_of(h / 65536);
     places[n] = p;
     hashes[n] = h;
 }

@@ -1,28 +1,37 @@
--- `is_repeated`: a bucket without a mark answers for all names. Assumes nothing.
+-- `is_repeated`: a bit that is not set answers for all names. Assumes nothing.
 use mathlib.Core.Path.{sym}
 use mathlib.Core.Bool.{true, false}
+use Rattle.definitions.specs.Names.{markBit}
 use Rattle.definitions.proofs.NoteLaws.{unmarked}
 use borrow.Author.Needs.{needs}
 use Rattle.definitions.proofs.names.is_repeated.Statement.{statement}
 use Rattle.definitions.proofs.names.is_repeated.Tie as tie
 
-low-bucket-requires : tie.Need-low-bucket-requires
-low-bucket-requires c κs = search needs
+low-byte-requires : tie.Need-low-byte-requires
+low-byte-requires c κs = search needs
 
 shared-slice-read-if1 : tie.Need-shared-slice-read-if1
 shared-slice-read-if1 c = search needs
 
-returns : tie.Need-returns
-returns c = sym (unmarked _ _ _ _ _ _ _ (c .before .before .before .before .before .before .before .before .before .before .pre .0) (c .before .before .before .before .before .before .before .before .before .before .pre .1) false (c .before .before .low-bucket .ensures .0) (c .if1 .taken))
+bit-of-requires : tie.Need-bit-of-requires
+bit-of-requires c κs = search needs
 
-high-bucket-requires : tie.Need-high-bucket-requires
-high-bucket-requires c κs = search needs
+returns : tie.Need-returns
+unfolding markBit
+returns c = sym (unmarked _ _ _ _ _ _ _ (c .before .before .before .before .before .before .before .before .before .before .before .pre .0) (c .before .before .before .before .before .before .before .before .before .before .before .pre .1) false (c .before .before .before .low-byte .ensures .0) (c .before .bit-of .ensures) (c .if1 .taken))
+
+high-byte-requires : tie.Need-high-byte-requires
+high-byte-requires c κs = search needs
 
 shared-slice-read-if2 : tie.Need-shared-slice-read-if2
 shared-slice-read-if2 c = search needs
 
+bit-of-requires-2 : tie.Need-bit-of-requires-2
+bit-of-requires-2 c κs = search needs
+
 returns-2 : tie.Need-returns-2
-returns-2 c = sym (unmarked _ _ _ _ _ _ _ (c .before .before .before .before .before .before .before .before .before .before .before .before .before .pre .0) (c .before .before .before .before .before .before .before .before .before .before .before .before .before .pre .1) true (c .before .before .high-bucket .ensures .0) (c .if2 .taken))
+unfolding markBit
+returns-2 c = sym (unmarked _ _ _ _ _ _ _ (c .before .before .before .before .before .before .before .before .before .before .before .before .before .before .before .pre .0) (c .before .before .before .before .before .before .before .before .before .before .before .before .before .before .before .pre .1) true (c .before .before .before .high-byte .ensures .0) (c .before .bit-of2 .ensures) (c .if2 .taken))
 
 is-remembered-requires : tie.Need-is-remembered-requires
 is-remembered-requires c κs = search needs
@@ -34,11 +43,13 @@ pub is-repeated-spec : {M : Type 1} → statement M
 is-repeated-spec =
     tie.close
     (tie.spec
-    low-bucket-requires
+    low-byte-requires
     shared-slice-read-if1
+    bit-of-requires
     returns
-    high-bucket-requires
+    high-byte-requires
     shared-slice-read-if2
+    bit-of-requires-2
     returns-2
     is-remembered-requires
     returns-3)

@@ -1,18 +1,31 @@
--- `remember`: the two marks, the place and the hash are stored. Assumes nothing.
+-- `remember`: the two bits, the place and the hash are stored. Assumes nothing.
 use mathlib.Core.Path.{refl}
-use Rattle.definitions.specs.Names.{mark}
+use Rattle.definitions.specs.Names.{markBit}
+use Rattle.definitions.proofs.NoteLaws.{mark-is}
 use borrow.Author.Needs.{needs}
 use Rattle.definitions.proofs.names.remember.Statement.{statement}
 use Rattle.definitions.proofs.names.remember.Tie as tie
 
-low-bucket-requires : tie.Need-low-bucket-requires
-low-bucket-requires c κs = search needs
+low-byte-requires : tie.Need-low-byte-requires
+low-byte-requires c κs = search needs
 
-high-bucket-requires : tie.Need-high-bucket-requires
-high-bucket-requires c κs = search needs
+slice-read-marks : tie.Need-slice-read-marks
+slice-read-marks c = search needs
+
+bit-of-requires : tie.Need-bit-of-requires
+bit-of-requires c κs = search needs
 
 slice-write-marks : tie.Need-slice-write-marks
 slice-write-marks c = search needs
+
+high-byte-requires : tie.Need-high-byte-requires
+high-byte-requires c κs = search needs
+
+slice-read-marks-2 : tie.Need-slice-read-marks-2
+slice-read-marks-2 c = search needs
+
+bit-of-requires-2 : tie.Need-bit-of-requires-2
+bit-of-requires-2 c κs = search needs
 
 slice-write-marks-2 : tie.Need-slice-write-marks-2
 slice-write-marks-2 c = search needs
@@ -39,16 +52,24 @@ same-length-3 : tie.Need-same-length-3
 same-length-3 c = search needs
 
 returns : tie.Need-returns
-unfolding mark
-returns c = (rw (c .before .low-bucket .ensures .0, c .high-bucket .ensures .0) refl, refl, refl)
+unfolding markBit
+returns c = (
+  mark-is _ _ (c .before .before .before .before .before .low-byte .ensures .0) (c .before .before .before .bit-of .ensures) (c .before .before .high-byte .ensures .0) (c .bit-of2 .ensures),
+  refl,
+  refl,
+)
 
 pub remember-spec : {M : Type 1} → statement M
 remember-spec =
     tie.close
     (tie.spec
-    low-bucket-requires
-    high-bucket-requires
+    low-byte-requires
+    slice-read-marks
+    bit-of-requires
     slice-write-marks
+    high-byte-requires
+    slice-read-marks-2
+    bit-of-requires-2
     slice-write-marks-2
     mul-places
     slice-write-places
