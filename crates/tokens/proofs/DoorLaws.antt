@@ -19,7 +19,7 @@ use Rattle.tokens.specs.WellFormed.{goodAfter, good, badFrom, firstBad, 
 use Rattle.tokens.specs.declared.door.Door.{Door}
 use Rattle.tokens.specs.declared.door.Door.the-variants.{NotWellFormed, KeptTooShort, StartOutside, Ready}
 use Rattle.tokens.specs.Door.{door}
-use Rattle.tokens.specs.Kept.{dropped, keptFrom, keptOf, keepUnless, numbers, LastKept}
+use Rattle.tokens.specs.Kept.{dropped, keptFrom, keptOf, keepUnless, numbers, EofLast}
 use Rattle.tokens.proofs.Laws.{lt-or-le, left-step, left-none, and-left, and-right}
 
 -- ---- the first bad token
@@ -52,6 +52,11 @@ Plain kind b = (not (eqb kind 0) && ltb kind 38) ≡ b
 -- behind that test, a kind other than Eof is Ident or one above it
 pub not-plain : (kind : ℕ) → Plain kind false → (kind ≡ 0 → ⊥) → 38 ≤ kind
 not-plain kind h e = ltb-false _ _ (rw (ne-eqb kind 0 e) at h)
+
+-- a kind that is not Eof
+not-zero : (k : ℕ) → not (eqb k Eof) ≡ true → 0 < k
+not-zero zero e = absurd (true≢false (sym e))
+not-zero (suc k) e = omega arith
 
 -- what a token that is not the last one is asked, kind by kind
 module _ (text : List ℕ) (kind start end extra : ℕ) where
@@ -101,6 +106,11 @@ module _ (text : List ℕ) (kind start end extra : ℕ) where
   unfolding eofGood contentsGood textGood extraGood
   asked-rest h a b d e =
       rw (ne-eqb kind 0 (λ i. omega arith), ne-eqb kind 38 (λ i. omega arith), ne-eqb kind 39 (λ i. omega arith), ne-eqb kind 40 a, ne-eqb kind 41 b, ne-eqb kind 42 d, e, and-true, and-true)
+
+  -- whatever it is, one that passes is no Eof
+  pub asked-some : Asked true → 0 < kind
+  unfolding eofGood
+  asked-some e = not-zero kind (and-right (ltb kind kinds) _ (and-left (ltb kind kinds && not (eqb kind Eof)) _ e))
 
 -- and the last one
 pub asked-last : (text : List ℕ) (kind start end extra : ℕ) → (eqb kind Eof && eqb extra 0) ≡ (ltb kind kinds && eofGood true kind && contentsGood text kind start end extra)
@@ -257,16 +267,37 @@ kept-some words (suc left) i j a b e = go (dropped (kindOf words i)) refl (λ h.
         ⊎-elim (λ (same : i ≡ j). absurd (true≢false (sym t ∙ ap (λ (k : ℕ). dropped (kindOf words k)) same ∙ e))) (λ (later : i < j). rest (omega arith)) (eq-or-lt-of-le a)
     go false t rest = omega arith
 
--- where the last token is kept: from each on one is still to come, and behind a dropped one too
-module _ (words : List ℕ) (last : LastKept words) (i : ℕ) (h : i < tokenCount words) where
+-- behind Eof the first two kinds are dropped, and no other is
+pub dropped-first : (kind : ℕ) → 0 < kind → kind ≤ 2 → dropped kind ≡ true
+unfolding dropped
+dropped-first kind p h =
+    ⊎-elim (λ (i : kind < 2). let is : kind ≡ 1 = omega arith in rw is) (λ (i : 2 ≤ kind). let is : kind ≡ 2 = omega arith in rw is) (lt-or-le kind 2)
+
+pub kept-late : (kind : ℕ) → 2 < kind → dropped kind ≡ false
+unfolding dropped
+kept-late kind h = rw (ne-eqb kind 1 (λ e. omega arith), ne-eqb kind 2 (λ e. omega arith))
+
+-- the last token is kept
+pub last-kept : (words : List ℕ) → EofLast words → (i : ℕ) → i + 1 ≡ tokenCount words → dropped (kindOf words i) ≡ false
+unfolding dropped
+last-kept words eof i e = rw (eof .last i e)
+
+-- where it is: from each on one is still to come, and behind a dropped one too
+module _ (words : List ℕ) (eof : EofLast words) (i : ℕ) (h : i < tokenCount words) where
   pub kept-ahead : 0 < length (keptFrom words (tokenCount words - i) i)
-  kept-ahead = kept-some words (tokenCount words - i) i (tokenCount words - 1) (omega arith) (omega arith) (last (tokenCount words - 1) (omega arith))
+  kept-ahead = kept-some words (tokenCount words - i) i (tokenCount words - 1) (omega arith) (omega arith) (last-kept words eof (tokenCount words - 1) (omega arith))
+
+  -- the last one itself
+  pub kept-end : i + 1 ≡ tokenCount words → keptFrom words (tokenCount words - i) i ≡ i ∷ []
+  kept-end e =
+      kept-turn words (tokenCount words) i h
+      ∙ rw (last-kept words eof i e) (ap (λ (rest : List ℕ). i ∷ rest) (kept-none words (tokenCount words) (i + 1) (omega arith)))
 
   pub kept-behind : dropped (kindOf words i) ≡ true → 0 < length (keptFrom words (tokenCount words - (i + 1)) (i + 1))
   kept-behind e =
       ⊎-elim
-      (λ (end : i + 1 ≡ tokenCount words). absurd (true≢false (sym e ∙ last i end)))
-      (λ (more : i + 1 < tokenCount words). kept-some words (tokenCount words - (i + 1)) (i + 1) (tokenCount words - 1) (omega arith) (omega arith) (last (tokenCount words - 1) (omega arith)))
+      (λ (end : i + 1 ≡ tokenCount words). absurd (true≢false (sym e ∙ last-kept words eof i end)))
+      (λ (more : i + 1 < tokenCount words). kept-some words (tokenCount words - (i + 1)) (i + 1) (tokenCount words - 1) (omega arith) (omega arith) (last-kept words eof (tokenCount words - 1) (omega arith)))
       (eq-or-lt-of-le (omega arith))
 
 pub some-tokens : (text words : List ℕ) → wholeGood text words ≡ true → 0 < tokenCount words
@@ -285,9 +316,17 @@ last-is-eof text words f i e =
     let test = and-right head eof (and-left (head && eof) _ (f .each i (omega arith))) in
     eqb-true _ _ (rw (eq-eqb _ _ e) at test)
 
-pub last-kept : (text words : List ℕ) → WellFormed text words → LastKept words
-unfolding dropped
-last-kept text words f i e = rw (last-is-eof text words f i e)
+-- and no other is
+pub others-not : (text words : List ℕ) → WellFormed text words → (i : ℕ) → i + 1 < tokenCount words → 0 < kindOf words i
+unfolding good goodAfter eofGood
+others-not text words f i h =
+    let head = ltb (kindOf words i) kinds && rangeGood (length text) (prevEnd words i) (startOf words i) (endOf words i) in
+    let eof = eofGood (eqb (i + 1) (tokenCount words)) (kindOf words i) in
+    let test = and-right head eof (and-left (head && eof) _ (f .each i (omega arith))) in
+    not-zero (kindOf words i) (rw (ne-eqb (i + 1) (tokenCount words) (λ e. omega arith)) at test)
+
+pub eof-last : (text words : List ℕ) → WellFormed text words → EofLast words
+eof-last text words f = record { some = some-tokens text words (f .whole); last = last-is-eof text words f; others = others-not text words f }
 
 -- it is kept, so that a file, read from start 0, never gets 31
 pub kept-not-empty : (text words : List ℕ) → WellFormed text words → 0 < length (keptOf words)
@@ -503,7 +542,7 @@ module _ (text words : List ℕ) (whole : wholeGood text words ≡ true) where
         let asked = sym (asked-last text (getD words at 0) (getD words (at + 1) 0) (getD words (at + 2) 0) (getD words (at + 3) 0)) ∙ last in
         let here : Sound text words true (w .i) = record { behind = rw (← w .prev-is, w .place) (said .0); range = rw (w .place) (said .1); asked = rw (w .place) asked } in
         let all = all-good b here (rw (w .place) (said .2)) in
-        let one = rw (last-kept text words all (w .i) (is-last b)) at (kept-count words (tokenCount words) (w .i) (w .inside)) in
+        let one = rw (last-kept words (eof-last text words all) (w .i) (is-last b)) at (kept-count words (tokenCount words) (w .i) (w .inside)) in
         let none = ap length (kept-none words (tokenCount words) (w .i + 1) (omega (arith, is-last b))) in
         let counted : count ≡ length (keptOf words) = omega (arith, one, none, w .counts) in
         counted ∙ all-counted text words all

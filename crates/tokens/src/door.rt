@@ -10,7 +10,7 @@ ghost use lib.Seq.{sets};
 ghost use Rattle.tokens.specs.Kind.{kinds, Eof};
 ghost use Rattle.tokens.specs.Token.{tokenCount};
 ghost use Rattle.tokens.specs.WellFormed.{rangeGood, eofGood, contentsGood, wholeGood, goodAfter, firstBad};
-ghost use Rattle.tokens.specs.Kept.{dropped, keptOf, numbers, LastKept};
+ghost use Rattle.tokens.specs.Kept.{dropped, keptOf, numbers, EofLast};
 ghost use Rattle.tokens.specs.Door.{door, Prepared};
 
 // What the door answers: a refusal with its cursor, or the kept count.
@@ -130,21 +130,12 @@ fn whole_good(text: &[u8], tokens: &[u32]) -> bool
     n <= 65536
 }
 
-// Whitespace and Comment are dropped.
-fn is_dropped(kind: u32) -> bool
-    ensures { λ r. ⌜ r ≡ dropped kind ⌝ }
-{
-    if kind == 1 {
-        return true;
-    }
-    kind == 2
-}
-
-// 1 for a token that is kept, 0 for one that is dropped.
+// 1 for a token that is kept, 0 for one that is dropped: behind Eof the first two kinds are. No branch: which it is can't be foreseen.
 fn kept_one(kind: u32) -> usize
+    requires { ⌜ 0 < kind ⌝ }
     ensures { λ r. ⌜ r ≡ cond (dropped kind) 0 1 ⌝ }
 {
-    if is_dropped(kind) { 0 } else { 1 }
+    if 2 < kind { 1 } else { 0 }
 }
 
 // The kept count of a list in which no token is bad; 0 where one is. That a token ends inside the text is asked of the last one alone, since every token ends
@@ -170,7 +161,6 @@ fn count_good(text: &[u8], tokens: &[u32]) -> usize
         if !contents_good(text, kind, start, end, tokens[at + 3]) {
             return 0;
         }
-        // no branch: whether a token is kept can't be foreseen
         count += kept_one(kind);
         prev = end;
         at += 4;
@@ -189,17 +179,18 @@ fn count_good(text: &[u8], tokens: &[u32]) -> usize
 fn keep(tokens: &[u32], kept: &mut [u32])
     requires { ⌜ tokenCount (now tokens) ≤ 65536 ⌝ }
     requires { ⌜ length (keptOf (now tokens)) ≤ length (now kept) ⌝ }
-    requires { ⌜ LastKept (now tokens) ⌝ }
+    requires { ⌜ EofLast (now tokens) ⌝ }
     ensures { λ _. ⌜ now (kept .exit) ≡ sets (now (kept .entry)) 0 (keptOf (now (tokens .entry))) ⌝ }
 {
-    let n = tokens.len() / 4;
+    let last = tokens.len() / 4 - 1;
     let mut m = 0;
     let mut i = 0;
-    while i < n {
+    while i < last {
         kept[m] = i as u32;
         m += kept_one(tokens[i * 4]);
         i += 1;
     }
+    kept[m] = i as u32;
 }
 
 // The numbers of n tokens of which none is dropped.
@@ -219,7 +210,7 @@ fn write_kept(tokens: &[u32], kept: &mut [u32], count: usize)
     requires { ⌜ tokenCount (now tokens) ≤ 65536 ⌝ }
     requires { ⌜ count ≡ length (keptOf (now tokens)) ⌝ }
     requires { ⌜ count ≤ length (now kept) ⌝ }
-    requires { ⌜ LastKept (now tokens) ⌝ }
+    requires { ⌜ EofLast (now tokens) ⌝ }
     ensures { λ _. ⌜ now (kept .exit) ≡ sets (now (kept .entry)) 0 (keptOf (now (tokens .entry))) ⌝ }
 {
     if count == tokens.len() / 4 {

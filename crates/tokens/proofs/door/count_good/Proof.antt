@@ -4,7 +4,7 @@ use native.Mathlib.Omega.{arith}
 use lib.ListN.{length, getD}
 use Rattle.tokens.specs.Kept.{dropped}
 use Rattle.tokens.proofs.Laws.{said-no, said-yes}
-use Rattle.tokens.proofs.DoorLaws.{one-most, some-tokens, Walked, walk-start, starts-early, ends-early, asked-wrong, range-wrong, last-wrong, walk-on, walk-end}
+use Rattle.tokens.proofs.DoorLaws.{one-most, asked-some, some-tokens, Walked, walk-start, starts-early, ends-early, asked-wrong, range-wrong, last-wrong, walk-on, walk-end}
 use borrow.Author.Needs.{needs}
 use Rattle.tokens.proofs.door.count_good.Statement.{statement}
 use Rattle.tokens.proofs.door.count_good.Tie as tie
@@ -67,7 +67,7 @@ returns-3 : tie.Need-returns-3 Inv-loop μ-loop
 returns-3 c = asked-wrong _ _ (c .before .before .before .before .before .before .before .before .before .before .before .before .pre) (c .before .before .before .before .before .before .before .before .before .loop .inv) (c .before .before .before .before .before .before .before .before .loop-test .taken) (said-no (c .before .contents-good .ensures) (c .if3 .taken))
 
 kept-one-requires : tie.Need-kept-one-requires Inv-loop μ-loop
-kept-one-requires c κs = search needs
+kept-one-requires c κs = asked-some _ _ _ _ _ (said-yes (c .before .contents-good .ensures) (c .if3 .left))
 
 add-count : tie.Need-add-count Inv-loop μ-loop
 add-count c =

@@ -1,5 +1,5 @@
 use mathlib.Core.Path.{refl, sym, _∙_}
-use Rattle.tokens.proofs.DoorLaws.{ready, last-kept}
+use Rattle.tokens.proofs.DoorLaws.{ready, eof-last}
 use borrow.Author.Needs.{needs}
 use Rattle.tokens.proofs.door.prepare.Statement.{statement}
 use Rattle.tokens.proofs.door.prepare.Tie as tie
@@ -23,7 +23,7 @@ write-kept-requires : tie.Need-write-kept-requires
 write-kept-requires c κs =
     let at = c .before .before .before .before .before .before .before .before .args in
     let through = ready (at .text .now) (at .tokens .now) _ _ (sym (c .before .before .before .before .examine .ensures) ∙ c .before .before .count2 .given .1) in
-    (through .few, (sym (through .count), (through .room-enough, last-kept (at .text .now) (at .tokens .now) (through .formed))))
+    (through .few, (sym (through .count), (through .room-enough, eof-last (at .text .now) (at .tokens .now) (through .formed))))
 
 returns : tie.Need-returns
 returns c = record { answer = sym (c .before .at .given .1) ∙ c .before .before .before .examine .ensures; list = refl }
