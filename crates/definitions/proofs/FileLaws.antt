@@ -280,7 +280,7 @@ loop-begins text words kept de st ar marks places hashes some =
           record {
             placed = omega arith;
             stored = omega arith;
-            buckets = some;
+            halves = some;
             hashed = λ j h. absurd (none j h);
             marked = λ _ j h. absurd (none j h);
           };

@@ -269,8 +269,8 @@ module _ (all : List Token) (marks places hashes : List ℕ) (n p h : ℕ) where
         → 0 < bitAnd (getD (mark marks h) (markByte high (length marks) (hashOf (nameAt all places′ j))) 0) (markBit high (hashOf (nameAt all places′ j)))
     marked′ high j lt =
         ⊎-elim
-        (λ (e : j ≡ n). rw (e, newest, ← is) (mark-own marks h (noted .buckets) high))
-        (λ (l : j < n). rw (earlier j l) (mark-stays marks h (noted .buckets) _ _ (noted .marked high j l)))
+        (λ (e : j ≡ n). rw (e, newest, ← is) (mark-own marks h (noted .halves) high))
+        (λ (l : j < n). rw (earlier j l) (mark-stays marks h (noted .halves) _ _ (noted .marked high j l)))
         (eq-or-lt-of-le (down j n lt))
       where
         down : (j n : ℕ) → j < suc n → j ≤ n
@@ -282,7 +282,7 @@ module _ (all : List Token) (marks places hashes : List ℕ) (n p h : ℕ) where
       record {
         placed = rw length-set room;
         stored = rw length-set room′;
-        buckets = rw (length-mark marks h) (noted .buckets);
+        halves = rw (length-mark marks h) (noted .halves);
         hashed = hashed′;
         marked = λ high j lt. rw (length-mark marks h) (marked′ high j lt);
       },

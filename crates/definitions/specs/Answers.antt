@@ -97,7 +97,7 @@ pub record Kept (words kept : List ℕ) : Type 0 where
 -- and room for the names of macros, fns and tests, each of which takes at least eight tokens
 pub record Readable (words kept marks places hashes : List ℕ) : Type 0 where
   pub list : Kept words kept
-  pub buckets : 2 ≤ length marks
+  pub halves : 2 ≤ length marks
   pub placed : length kept ≤ 8 * length places
   pub stored : length kept ≤ 8 * length hashes
 

@@ -55,7 +55,7 @@ namesAt all places (suc n) = nameAt all places n ∷ namesAt all places n
 pub record Noted (all : List Token) (marks places hashes : List ℕ) (n : ℕ) : Type 0 where
   pub placed : n ≤ length places
   pub stored : n ≤ length hashes
-  pub buckets : 2 ≤ length marks
+  pub halves : 2 ≤ length marks
   pub hashed : (j : ℕ) → j < n → getD hashes j 0 ≡ hashOf (nameAt all places j)
   pub marked : (high : Bool) (j : ℕ) → j < n →
       0 < bitAnd (getD marks (markByte high (length marks) (hashOf (nameAt all places j))) 0) (markBit high (hashOf (nameAt all places j)))

@@ -17,7 +17,7 @@ abbrev μ-loop : tie.MeasureT-loop
     length kept - p
 
 loop-holds : tie.Need-loop-holds Inv-loop μ-loop
-loop-holds c = loop-begins (c .before .before .before .before .before .before .before .before .before .args .text .now) (c .before .before .before .before .before .before .before .before .before .args .tokens .now) (c .before .before .before .before .before .before .before .before .before .args .kept .now) (c .before .before .before .before .before .before .before .before .before .args .definitions .now) (c .before .before .before .before .before .before .before .before .before .args .statements .now) (c .before .before .before .before .before .before .before .before .before .args .arguments .now) (c .before .before .before .before .before .before .before .before .before .args .marks .now) (c .before .before .before .before .before .before .before .before .before .args .places .now) (c .before .before .before .before .before .before .before .before .before .args .hashes .now) (c .before .before .before .before .before .before .before .before .before .pre .buckets)
+loop-holds c = loop-begins (c .before .before .before .before .before .before .before .before .before .args .text .now) (c .before .before .before .before .before .before .before .before .before .args .tokens .now) (c .before .before .before .before .before .before .before .before .before .args .kept .now) (c .before .before .before .before .before .before .before .before .before .args .definitions .now) (c .before .before .before .before .before .before .before .before .before .args .statements .now) (c .before .before .before .before .before .before .before .before .before .args .arguments .now) (c .before .before .before .before .before .before .before .before .before .args .marks .now) (c .before .before .before .before .before .before .before .before .before .args .places .now) (c .before .before .before .before .before .before .before .before .before .args .hashes .now) (c .before .before .before .before .before .before .before .before .before .pre .halves)
 
 kind-at-requires : tie.Need-kind-at-requires Inv-loop μ-loop
 kind-at-requires c κs = search needs

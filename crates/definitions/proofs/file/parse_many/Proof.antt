@@ -18,7 +18,7 @@ slice-aggregate-parse-3 c = search needs
 parse-requires : tie.Need-parse-requires
 parse-requires c κs =
     let few = c .before .before .before .before .before .before .before .before .before .before .before .before .pre .few in
-    record { list = c .before .before .before .before .before .before .before .before .before .before .before .before .pre; buckets = rw length-replicate (omega arith); placed = roomy _ 8192 (omega arith); stored = roomy _ 8192 (omega arith) }
+    record { list = c .before .before .before .before .before .before .before .before .before .before .before .before .pre; halves = rw length-replicate (omega arith); placed = roomy _ 8192 (omega arith); stored = roomy _ 8192 (omega arith) }
 
 same-length : tie.Need-same-length
 same-length c = search needs

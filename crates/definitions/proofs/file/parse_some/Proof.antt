@@ -19,7 +19,7 @@ parse-requires : tie.Need-parse-requires
 parse-requires c κs =
     let pre = c .before .before .before .before .before .before .before .before .before .before .before .before .pre in
     let few = pre .1 in
-    record { list = pre .0; buckets = rw length-replicate (omega arith); placed = roomy _ 1536 (omega arith); stored = roomy _ 1536 (omega arith) }
+    record { list = pre .0; halves = rw length-replicate (omega arith); placed = roomy _ 1536 (omega arith); stored = roomy _ 1536 (omega arith) }
 
 same-length : tie.Need-same-length
 same-length c = search needs
