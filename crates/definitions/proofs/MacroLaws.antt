@@ -9,7 +9,7 @@ use mathlib.Core.Logic.{_⊎_, inl, inr, ⊎-elim}
 use borrow.Author.Tests.{eq-eqb, ne-eqb}
 use lib.Dec.{eqb}
 use lib.ListN.{length, drop, length-append, length-map}
-use Rattle.tokens.specs.Token.{Token, tokenAt}
+use Rattle.tokens.specs.Token.{Token, tokenAt, view, KindAt}
 use Rattle.tokens.specs.Table.{putAll}
 use Rattle.tokens.specs.Kind.{Macro, Fn, Test, Takes, Returns, Assign, OpenParen, CloseParen, OpenBrace, CloseBrace}
 use Rattle.tokens.proofs.Laws.{lt-or-le}
@@ -27,6 +27,7 @@ use Rattle.grammar.proofs.AtPlace.{look-at}
 use Rattle.statements.specs.Answers.{SingleRead, ListRead, BodyParsed}
 use Rattle.statements.specs.declared.single.Single.{Single}
 use Rattle.statements.specs.declared.single.Single.the-variants as singles
+use Rattle.statements.specs.declared.argument.Sort.the-variants as sorts
 use Rattle.statements.specs.declared.list.ArgList.the-variants as lists
 use Rattle.statements.specs.declared.item.Tally.{Tally}
 use Rattle.statements.specs.declared.item.Items.the-variants as items
@@ -37,6 +38,7 @@ use Rattle.definitions.specs.Answers.{DefParsed}
 use Rattle.definitions.specs.Behind.{formed, behindName}
 use Rattle.definitions.specs.Macros.{MacroKind, macroSort, NumberRead, numbersFrom, NumbersRead, headFrom, tailFrom, MacroPut, TailParsed}
 use Rattle.statements.proofs.At.{look-table, look-else, expect-yes, expect-no}
+use Rattle.statements.proofs.ListLaws.{Listing, listing-closed, behind}
 use Rattle.definitions.proofs.Named.{refused}
 use Rattle.definitions.proofs.Readers.{Stops, stops-here, as-stops, seq-stops, seq-at, seq-then-stops, seq-nothing, seq-same, seq-group, expect-group, AtLeast, any-least, expect-least, seq-least}
 
@@ -143,6 +145,18 @@ list-stops (bad y w) h = record { why = y; place = w; is = refl; says = (cc (h .
 list-refused : {p size c q : ℕ} {table table′ : List ℕ} {x : Res (List Argument)} → Stops x c q → ListRead 0 p size x table (lists.Refused c q) table′
 list-refused {q = q} s =
     rw (s .is) (record { is = ap (λ n. lists.Refused n q) (s .says) ∙ ap (lists.Refused (number (s .why))) (s .at); records = tt; within = tt })
+
+-- `( )`: no argument is declared, and nothing is written
+pub none-declared : (text : List ℕ) {tokens kept table : List ℕ} {p k : ℕ} → tokenAt (view text tokens kept) p .kind ≡ OpenParen → KindAt tokens kept (p + 1) k → k ≡ CloseParen
+    → ListRead 0 p (length kept) (parseArgs nameArgument p (drop p (view text tokens kept))) table (lists.Done 0 (p + 2)) table
+none-declared text {tokens} {kept} {table} {p} opens there closes =
+    let inside : p + 1 ≤ length kept = omega (arith, there .inside) in
+    let none : Listing text tokens kept sorts.Macro (p + 1) table 0 table (p + 1) 0 0 =
+    record { left = refl; from = omega arith; inside = inside; few = omega arith; records = omega arith; same = refl } in
+    let place : p + 1 + 1 ≡ p + 2 = omega arith in
+    let all = view text tokens kept in
+    behind (λ q. closedList nameArgument q (drop q all)) (expect-yes p all OpenParen (plain 1) (λ o. closedList nameArgument) opens)
+    (rw place at (listing-closed none there closes))
 
 -- `=` behind a list
 abbrev equals : List Argument → ℕ → List Token → Res (List Argument)

@@ -18,8 +18,9 @@ ghost use Prim.Native.Nat.{_≤_, _<_};
 ghost use lib.ListN.{length};
 ghost use Rattle.tokens.specs.Token.{view};
 ghost use Rattle.grammar.specs.Rules.{base};
+ghost use Rattle.grammar.specs.Reader.{nameArgument};
 ghost use Rattle.grammar.specs.Typed.{singleNumber};
-ghost use Rattle.grammar.specs.FileReader.{optional, macroRest, parseMacro};
+ghost use Rattle.grammar.specs.FileReader.{optional, parseArgs, macroRest, parseMacro};
 ghost use Rattle.statements.specs.Answers.{Place, ListRead, tokensFrom};
 ghost use Rattle.definitions.specs.Answers.{Reading, DefParsed};
 ghost use Rattle.definitions.specs.Macros.{NumberRead, numbersFrom, NumbersRead, headFrom, Declared, tailFrom, MacroKind, MacroPut, TailParsed, macroSort};
@@ -59,6 +60,28 @@ fn macro_numbers(text: &[u8], tokens: &[u32], kept: &[u32], p: usize) -> Numbers
     }
 }
 
+// The list of declared arguments behind the name. Most macros declare none: `( )` is told here, since a call of the list's reader costs more than the two
+// tokens.
+fn declared_args(
+    text: &[u8],
+    tokens: &[u32],
+    kept: &[u32],
+    p: usize,
+    arguments: &mut [u32],
+) -> ArgList
+    requires { ⌜ Place (now kept) p ⌝ }
+    ensures { λ r. ⌜ ListRead 0 p (length (now (kept .entry)))
+        (parseArgs nameArgument p (tokensFrom (now (text .entry)) (now (tokens .entry)) (now (kept .entry)) p))
+        (now (arguments .entry)) r (now (arguments .exit)) ⌝ }
+{
+    if kind_at(tokens, kept, p) == 27 {
+        if kind_at(tokens, kept, p + 1) == 28 {
+            return ArgList::Done(0, p + 2);
+        }
+    }
+    parse_args(text, tokens, kept, Sort::Macro, p, arguments, 0)
+}
+
 // The list of declared arguments behind the name, and `=`.
 fn macro_head(text: &[u8], tokens: &[u32], kept: &[u32], p: usize, arguments: &mut [u32]) -> ArgList
     requires { ⌜ Place (now kept) p ⌝ }
@@ -66,7 +89,7 @@ fn macro_head(text: &[u8], tokens: &[u32], kept: &[u32], p: usize, arguments: &m
         (headFrom p (tokensFrom (now (text .entry)) (now (tokens .entry)) (now (kept .entry)) p))
         (now (arguments .entry)) r (now (arguments .exit)) ⌝ }
 {
-    match parse_args(text, tokens, kept, Sort::Macro, p, arguments, 0) {
+    match declared_args(text, tokens, kept, p, arguments) {
         ArgList::Refused(c, q) => ArgList::Refused(c, q),
         ArgList::Done(n, e) => {
             if kind_at(tokens, kept, e) != 26 {
