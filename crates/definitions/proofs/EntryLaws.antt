@@ -29,6 +29,7 @@ use Rattle.definitions.specs.declared.entry.File.the-variants as answers
 use Rattle.definitions.specs.Answers.{Kept, FileParsed}
 use Rattle.definitions.specs.Call.{settled, FileTaken, FileCall}
 use Rattle.definitions.proofs.RecordLaws.{definition-count, statement-count, argument-count, definition-wide, statement-wide, argument-wide}
+use Rattle.tokens.proofs.KeptLaws.{kept-numbered}
 use Rattle.definitions.proofs.Lined.{lined-kept, kept-few}
 
 -- ---- tables
@@ -176,7 +177,7 @@ module _ (text words kept kept′ : List ℕ) (r : Door) (prepared : Prepared te
     pub part-kept : Kept words (take (n - 0) kept′)
     part-kept =
         rw part-is
-        record { few = omega (arith, kept-few words, through .few); lined = lined-kept text words (through .formed) }
+        record { numbered = kept-numbered words; few = omega (arith, kept-few words, through .few); lined = lined-kept text words (through .formed) }
 
     -- the reading
     pub called-ready : (de st ar : List ℕ) (f : File) (de′ st′ ar′ : List ℕ)

@@ -5,15 +5,16 @@ use mathlib.Core.Bool.{Bool, true, false, _&&_}
 use mathlib.Core.List.{List, _∷_}
 use mathlib.Core.Logic.{⊎-elim}
 use native.Mathlib.Omega.{arith}
-use native.Mathlib.Nat.{eq-or-lt-of-le, le-of-suc-le-suc}
+use native.Mathlib.Nat.{eq-or-lt-of-le}
 use borrow.Author.Tests.{leb-true, lt-ltb}
 use lib.Dec.{leb, ltb, eqb}
 use lib.ListN.{length, getD}
 use Rattle.tokens.specs.Kind.{kinds}
 use Rattle.tokens.specs.Token.{tokenCount, kindOf, startOf, endOf, extraOf, fieldAt}
 use Rattle.tokens.specs.WellFormed.{wholeGood, prevEnd, rangeGood, eofGood, contentsGood, goodAfter, good, WellFormed}
-use Rattle.tokens.specs.Kept.{dropped, keepUnless, keptFrom, keptOf}
+use Rattle.tokens.specs.Kept.{keptOf}
 use Rattle.tokens.proofs.Laws.{and-left, and-right}
+use Rattle.tokens.proofs.KeptLaws.{kept-rising}
 use Rattle.definitions.specs.Answers.{Lined}
 
 -- ---- the tokens of the lent list
@@ -77,48 +78,6 @@ module _ (text words : List ℕ) (formed : WellFormed text words) where
       leb-true _ _ (and-left a b (and-left (a && b) c (and-left (a && b && c) d (formed .whole))))
 
 -- ---- the kept list
-
--- of the numbers that are kept of `left` tokens from i on: each lies among those, and is less than the next
-record Rising (i left : ℕ) (kept : List ℕ) : Type 0 where
-  few : length kept ≤ left
-  low : (p : ℕ) → p < length kept → i ≤ getD kept p 0
-  high : (p : ℕ) → p < length kept → getD kept p 0 < i + left
-  rises : (p : ℕ) → suc p < length kept → getD kept p 0 < getD kept (suc p) 0
-
-rising : (words : List ℕ) (left i : ℕ) → Rising i left (keptFrom words left i)
-unfolding keptFrom
-rising words zero i =
-    record { few = omega arith; low = λ p h. absurd (none p h); high = λ p h. absurd (none p h); rises = λ p h. absurd (none (suc p) h) }
-  where
-    none : (p : ℕ) → p < 0 → ⊥
-    none p h = omega arith
-rising words (suc left) i = go (dropped (kindOf words i)) (rising words left (i + 1))
-  where
-    go : (t : Bool) → Rising (i + 1) left (keptFrom words left (i + 1)) → Rising i (suc left) (keepUnless t i (keptFrom words left (i + 1)))
-    go true r =
-        record {
-          few = omega (arith, r .few);
-          low = λ p h. omega (arith, r .low p h);
-          high = λ p h. omega (arith, r .high p h);
-          rises = r .rises;
-        }
-    go false r = record { few = omega (arith, r .few); low = low′; high = high′; rises = rises′ }
-      where
-        low′ : (p : ℕ) → p < length (i ∷ keptFrom words left (i + 1)) → i ≤ getD (i ∷ keptFrom words left (i + 1)) p 0
-        low′ zero h = omega arith
-        low′ (suc p) h = omega (arith, r .low p (le-of-suc-le-suc h))
-
-        high′ : (p : ℕ) → p < length (i ∷ keptFrom words left (i + 1)) → getD (i ∷ keptFrom words left (i + 1)) p 0 < i + suc left
-        high′ zero h = omega arith
-        high′ (suc p) h = omega (arith, r .high p (le-of-suc-le-suc h))
-
-        rises′ : (p : ℕ) → suc p < length (i ∷ keptFrom words left (i + 1)) → getD (i ∷ keptFrom words left (i + 1)) p 0 < getD (i ∷ keptFrom words left (i + 1)) (suc p) 0
-        rises′ zero h = omega (arith, r .low 0 (le-of-suc-le-suc h))
-        rises′ (suc p) h = r .rises p (le-of-suc-le-suc h)
-
-kept-rising : (words : List ℕ) → Rising 0 (tokenCount words) (keptOf words)
-unfolding keptOf
-kept-rising words = rising words (tokenCount words) 0
 
 -- no more are kept than there are
 pub kept-few : (words : List ℕ) → length (keptOf words) ≤ tokenCount words

@@ -1,14 +1,15 @@
--- Laws of remembered names: the hash by four bytes and by one, bits, the marks, the walk a name at a time, a bit that is not set, one name more. Assumes nothing.
-use Prim.Native.Nat.{ℕ, zero, suc, _+_, _-_, _*_, _/_, _%_, _≤_, _<_, zero-le, min, max}
+-- Laws of remembered names: the hash by four bytes and by those that are left, bits, the marks, the walk a name at a time, a bit that is not set, one name
+-- more. Assumes nothing.
+use Prim.Native.Nat.{ℕ, zero, suc, _+_, _-_, _*_, _/_, _%_, _^_, _≤_, _<_, zero-le, min, max}
 use mathlib.Core.Path.{_≡_, refl, sym, ap, _∙_}
 use mathlib.Core.Bool.{Bool, true, false}
 use mathlib.Core.List.{List, [], _∷_}
 use mathlib.Core.Logic.{⊎-elim}
 use native.Mathlib.Omega.{arith}
 use native.Mathlib.Numerals.{add-one}
-use native.Mathlib.Nat.{eq-or-lt-of-le, le-trans}
+use native.Mathlib.Nat.{eq-or-lt-of-le, le-trans, pow-suc, pow-le-pow-right}
 use borrow.Author.Tests.{eqb-true, eqb-false}
-use lib.Dec.{eqb}
+use lib.Dec.{eqb, lit<}
 use lib.Arith.{bin-ind}
 use lib.Pow.{pow-pos}
 use lib.Bits.{bitAnd, bitOr, and-step, or-step, or-shr, and-le-r, and-self}
@@ -19,7 +20,7 @@ use Rattle.tokens.specs.Byte.{same}
 use Rattle.tokens.specs.Name.{oneOf}
 use Rattle.tokens.proofs.NameLaws.{same-equal}
 use Rattle.tokens.proofs.ViewLaws.{view-text}
-use Rattle.definitions.specs.Names.{mixed, hashFrom, hashOf, markByte, markBit, setBit, mark, nameAt, namesAt, Noted, Noting}
+use Rattle.definitions.specs.Names.{mixed, fourAt, hashFrom, hashOf, markByte, markBit, setBit, mark, nameAt, namesAt, Noted, Noting}
 
 -- ---- the hash
 
@@ -28,9 +29,7 @@ unfolding mixed
 mixed-small h = omega arith
 
 -- four bytes more
-pub hash-four : (h i : ℕ) (name : List ℕ) → i + 4 ≤ length name
-    → hashFrom (mixed (h + getD name i 0 + getD name (i + 1) 0 * 256 + getD name (i + 2) 0 * 65536 + getD name (i + 3) 0 * 16777216)) (drop (i + 4) name)
-    ≡ hashFrom h (drop i name)
+pub hash-four : (h i : ℕ) (name : List ℕ) → i + 4 ≤ length name → hashFrom (mixed (h + fourAt name i)) (drop (i + 4) name) ≡ hashFrom h (drop i name)
 unfolding hashFrom
 hash-four h i name le = rw four refl
   where
@@ -46,27 +45,47 @@ hash-four h i name le = rw four refl
         (next (i + 2) (i + 3) (omega arith) (omega arith)
         ∙ ap (λ (l : List ℕ). getD name (i + 2) 0 ∷ l) (next (i + 3) (i + 4) (omega arith) (omega arith))))
 
--- one more of the last three bytes
-last : (h a : ℕ) (bs : List ℕ) → length bs < 3 → hashFrom h (a ∷ bs) ≡ hashFrom (mixed (h + a)) bs
-unfolding hashFrom
-last h a [] lt = refl
-last h a (b ∷ []) lt = refl
-last h a (b ∷ c ∷ []) lt = refl
-last h a (b ∷ c ∷ d ∷ bs) lt = absurd (none (length bs) lt)
+-- a number and the bytes behind it as one number, the last one lowest
+unfoldable pub restFrom : ℕ → List ℕ → ℕ
+restFrom r [] = r
+restFrom r (b ∷ bs) = restFrom (r * 2048 + b) bs
+
+-- one byte more
+pub rest-one : (r i : ℕ) (name : List ℕ) → i < length name → restFrom (r * 2048 + getD name i 0) (drop (i + 1) name) ≡ restFrom r (drop i name)
+unfolding restFrom
+rest-one r i name lt = rw (add-one i, drop-cons name i 0 lt) refl
+
+-- how large the number is then
+pub rest-grows : (r a i j : ℕ) → j ≤ i → a ≤ 255 → r < 2048 ^ (i - j) → r * 2048 + a < 2048 ^ (i + 1 - j)
+rest-grows r a i j le byte lt = rw (next i j le, pow-suc 2048 (i - j)) (omega arith)
   where
-    none : (n : ℕ) → suc (suc (suc n)) < 3 → ⊥
+    next : (i j : ℕ) → j ≤ i → i + 1 - j ≡ suc (i - j)
+    next i j le = omega arith
+
+-- that of three bytes is small
+pub rest-small : (r k : ℕ) → k ≤ 3 → r < 2048 ^ k → r < 8589934592
+rest-small r k le lt = le-trans lt (pow-le-pow-right (lit< tt) le)
+
+-- fewer than four bytes are left
+few : (h : ℕ) (bs : List ℕ) → length bs < 4 → mixed (h + restFrom 0 bs) ≡ hashFrom h bs
+unfolding hashFrom restFrom
+few h [] lt = ap mixed (omega arith)
+few h (a ∷ []) lt = ap mixed (omega arith)
+few h (a ∷ b ∷ []) lt = ap mixed (omega arith)
+few h (a ∷ b ∷ c ∷ []) lt = ap mixed (omega arith)
+few h (a ∷ b ∷ c ∷ d ∷ bs) lt = absurd (none (length bs) lt)
+  where
+    none : (n : ℕ) → suc (suc (suc (suc n))) < 4 → ⊥
     none n lt = omega arith
 
-pub hash-one : (h i : ℕ) (name : List ℕ) → i < length name → length name < i + 4
-    → hashFrom (mixed (h + getD name i 0)) (drop (i + 1) name) ≡ hashFrom h (drop i name)
-hash-one h i name lt few = rw (add-one i) (sym (rw (drop-cons name i 0 lt) (last h (getD name i 0) (drop (suc i) name) left)))
+-- they are put together from j on up to i, where none is left
+pub hash-end : (h r i j : ℕ) (name : List ℕ) → length name ≤ i → length name < j + 4 → restFrom r (drop i name) ≡ restFrom 0 (drop j name)
+    → mixed (h + r) ≡ hashFrom h (drop j name)
+unfolding restFrom
+hash-end h r i j name end lt e = ap (λ (x : ℕ). mixed (h + x)) (rw (drop-of-length-le name end) at e) ∙ few h (drop j name) left
   where
-    left : length (drop (suc i) name) < 3
-    left = let e = length-drop (suc i) name in omega arith
-
-pub hash-end : (h i : ℕ) (name : List ℕ) → length name ≤ i → hashFrom h (drop i name) ≡ h
-unfolding hashFrom
-hash-end h i name le = rw (drop-of-length-le name le)
+    left : length (drop j name) < 4
+    left = let e = length-drop j name in omega arith
 
 -- ---- bits
 

@@ -4,7 +4,7 @@ use mathlib.Core.Path.{_≡_}
 use mathlib.Core.Bool.{Bool, true, false}
 use mathlib.Core.List.{List, [], _∷_, map}
 use lib.ListN.{length}
-use Rattle.tokens.specs.Token.{Token, tokenAt, startAt, endAt}
+use Rattle.tokens.specs.Token.{Token, tokenAt, startAt, endAt, Numbered}
 use Rattle.tokens.specs.Table.{put, putAll}
 use Rattle.grammar.specs.Result.{number, beyond, Res, got, bad}
 use Rattle.grammar.specs.Records.{argumentRecord}
@@ -25,6 +25,7 @@ pub record Lined (words kept : List ℕ) : Type 0 where
 -- what the calls need: the kept list as the door promises it, a place in it, a definition's first place before that, and the numbers of records before the
 -- lent tables
 pub record Reading (words kept : List ℕ) (first p i a : ℕ) : Type 0 where
+  pub numbered : Numbered words kept
   pub few : length kept ≤ 65536
   pub lined : Lined words kept
   pub inside : p ≤ length kept
@@ -91,6 +92,7 @@ pub record DefAdded (all : List Token) (p d i a size : ℕ) (read : Res Definiti
 
 -- what reading a file needs: the kept list as the door promises it
 pub record Kept (words kept : List ℕ) : Type 0 where
+  pub numbered : Numbered words kept
   pub few : length kept ≤ 65536
   pub lined : Lined words kept
 

@@ -13,14 +13,23 @@ use Rattle.tokens.specs.Name.{oneOf}
 unfoldable pub mixed : ℕ → ℕ
 mixed h = h % 4294967296 * 2654435761 / 4096 % 4294967296
 
--- a number below 2 ^ 32 for every list of bytes, four at a time and then one by one; which number it is is of no account but for speed
-unfoldable pub hashFrom : ℕ → List ℕ → ℕ
-hashFrom h [] = h
-hashFrom h (a ∷ []) = mixed (h + a)
-hashFrom h (a ∷ b ∷ []) = mixed (mixed (h + a) + b)
-hashFrom h (a ∷ b ∷ c ∷ []) = mixed (mixed (mixed (h + a) + b) + c)
-hashFrom h (a ∷ b ∷ c ∷ d ∷ bs) = hashFrom (mixed (h + a + b * 256 + c * 65536 + d * 16777216)) bs
+-- four bytes as one number, the first one lowest
+unfoldable pub fourOf : ℕ → ℕ → ℕ → ℕ → ℕ
+fourOf a b c d = a + b * 256 + c * 65536 + d * 16777216
 
+-- those of a name from byte i on
+abbrev pub fourAt : List ℕ → ℕ → ℕ
+fourAt name i = fourOf (getD name i 0) (getD name (i + 1) 0) (getD name (i + 2) 0) (getD name (i + 3) 0)
+
+-- a number below 2 ^ 32 for every list of bytes, four at a time and those that are left together; which number it is is of no account but for speed
+unfoldable pub hashFrom : ℕ → List ℕ → ℕ
+hashFrom h [] = mixed h
+hashFrom h (a ∷ []) = mixed (h + a)
+hashFrom h (a ∷ b ∷ []) = mixed (h + (a * 2048 + b))
+hashFrom h (a ∷ b ∷ c ∷ []) = mixed (h + ((a * 2048 + b) * 2048 + c))
+hashFrom h (a ∷ b ∷ c ∷ d ∷ bs) = hashFrom (mixed (h + fourOf a b c d)) bs
+
+-- that of a name
 abbrev pub hashOf : List ℕ → ℕ
 hashOf name = hashFrom 0 name
 

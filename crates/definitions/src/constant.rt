@@ -42,7 +42,7 @@ pub enum ConstRead {
 
 // `=` and a value: a constant behind its name. No text is looked at: it is passed for the view that the promise speaks of.
 fn value_behind(text: &[u8], tokens: &[u32], kept: &[u32], p: usize) -> ValRead
-    requires { ⌜ Place (now kept) p ⌝ }
+    requires { ⌜ Place (now tokens) (now kept) p ⌝ }
     ensures { λ r. ⌜ ValueRead p (length (now (kept .entry))) (constantRest p (tokensFrom (now (text .entry)) (now (tokens .entry)) (now (kept .entry)) p)) r ⌝ }
 {
     if kind_at(tokens, kept, p) != 26 {
@@ -57,7 +57,7 @@ fn value_behind(text: &[u8], tokens: &[u32], kept: &[u32], p: usize) -> ValRead
 
 // A constant, from the token Constant on.
 fn read_constant(text: &[u8], tokens: &[u32], kept: &[u32], first: usize, p: usize) -> ConstRead
-    requires { ⌜ Place (now kept) p ⌝ }
+    requires { ⌜ Place (now tokens) (now kept) p ⌝ }
     ensures { λ r. ⌜ ConstantRead (view (now (text .entry)) (now (tokens .entry)) (now (kept .entry))) first p (length (now (kept .entry)))
         (parseConstant first p (tokensFrom (now (text .entry)) (now (tokens .entry)) (now (kept .entry)) p)) r ⌝ }
 {

@@ -13,7 +13,7 @@ pub enum Head {
 
 // A token of this kind at p, and an Ident behind it. No text is looked at: it is passed for the view that the promise speaks of.
 pub fn read_head(text: &[u8], tokens: &[u32], kept: &[u32], kind: u32, p: usize) -> Head
-    requires { ⌜ Place (now kept) p ⌝ }
+    requires { ⌜ Place (now tokens) (now kept) p ⌝ }
     ensures { λ r. ⌜ Headed (view (now (text .entry)) (now (tokens .entry)) (now (kept .entry))) kind p (length (now (kept .entry))) r ⌝ }
 {
     if kind_at(tokens, kept, p) != kind {

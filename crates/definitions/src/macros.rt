@@ -34,7 +34,7 @@ pub enum Numbers {
 
 // Takes or Returns, as `kind` says, with its number; 0 where it is missing.
 fn takes_or_returns(text: &[u8], tokens: &[u32], kept: &[u32], kind: u32, p: usize) -> Single
-    requires { ⌜ Place (now kept) p ⌝ }
+    requires { ⌜ Place (now tokens) (now kept) p ⌝ }
     requires { ⌜ 0 < kind ⌝ }
     ensures { λ r. ⌜ NumberRead p (length (now (kept .entry)))
         (optional kind singleNumber 0 p (tokensFrom (now (text .entry)) (now (tokens .entry)) (now (kept .entry)) p)) r ⌝ }
@@ -47,7 +47,7 @@ fn takes_or_returns(text: &[u8], tokens: &[u32], kept: &[u32], kind: u32, p: usi
 
 // Takes, then Returns.
 fn macro_numbers(text: &[u8], tokens: &[u32], kept: &[u32], p: usize) -> Numbers
-    requires { ⌜ Place (now kept) p ⌝ }
+    requires { ⌜ Place (now tokens) (now kept) p ⌝ }
     ensures { λ r. ⌜ NumbersRead p (length (now (kept .entry)))
         (numbersFrom p (tokensFrom (now (text .entry)) (now (tokens .entry)) (now (kept .entry)) p)) r ⌝ }
 {
@@ -69,7 +69,7 @@ fn declared_args(
     p: usize,
     arguments: &mut [u32],
 ) -> ArgList
-    requires { ⌜ Place (now kept) p ⌝ }
+    requires { ⌜ Place (now tokens) (now kept) p ⌝ }
     ensures { λ r. ⌜ ListRead 0 p (length (now (kept .entry)))
         (parseArgs nameArgument p (tokensFrom (now (text .entry)) (now (tokens .entry)) (now (kept .entry)) p))
         (now (arguments .entry)) r (now (arguments .exit)) ⌝ }
@@ -84,7 +84,7 @@ fn declared_args(
 
 // The list of declared arguments behind the name, and `=`.
 fn macro_head(text: &[u8], tokens: &[u32], kept: &[u32], p: usize, arguments: &mut [u32]) -> ArgList
-    requires { ⌜ Place (now kept) p ⌝ }
+    requires { ⌜ Place (now tokens) (now kept) p ⌝ }
     ensures { λ r. ⌜ ListRead 0 p (length (now (kept .entry)))
         (headFrom p (tokensFrom (now (text .entry)) (now (tokens .entry)) (now (kept .entry)) p))
         (now (arguments .entry)) r (now (arguments .exit)) ⌝ }

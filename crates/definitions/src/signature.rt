@@ -34,7 +34,7 @@ pub fn list_behind(
     p: usize,
     arguments: &mut [u32],
 ) -> Behind
-    requires { ⌜ Place (now kept) p ⌝ }
+    requires { ⌜ Place (now tokens) (now kept) p ⌝ }
     ensures { λ r. ⌜ SignatureRead (listNumber sort) p (length (now (kept .entry)))
         (listRest sort p (tokensFrom (now (text .entry)) (now (tokens .entry)) (now (kept .entry)) p))
         (now (arguments .entry)) r (now (arguments .exit)) ⌝ }
@@ -52,7 +52,7 @@ pub fn list_behind(
 
 // A function's type, 1 to 4 in the order View, Pure, Payable, NonPayable; 0 if none stands at p.
 fn function_type(text: &[u8], tokens: &[u32], kept: &[u32], p: usize) -> u32
-    requires { ⌜ Place (now kept) p ⌝ }
+    requires { ⌜ Place (now tokens) (now kept) p ⌝ }
     ensures { λ r. ⌜ TypeRead p (length (now (kept .entry))) (functionType p (tokensFrom (now (text .entry)) (now (tokens .entry)) (now (kept .entry)) p)) r ⌝ }
 {
     match kind_at(tokens, kept, p) {
@@ -73,7 +73,7 @@ fn outputs_behind(
     arguments: &mut [u32],
     n: usize,
 ) -> Behind
-    requires { ⌜ Place (now kept) p ⌝ }
+    requires { ⌜ Place (now tokens) (now kept) p ⌝ }
     requires { ⌜ n ≤ 65536 ⌝ }
     ensures { λ r. ⌜ ((inputs : List Argument) → OutputsRead inputs n p (length (now (kept .entry)))
         (outputsRest inputs p (tokensFrom (now (text .entry)) (now (tokens .entry)) (now (kept .entry)) p))
@@ -105,7 +105,7 @@ pub fn function_behind(
     p: usize,
     arguments: &mut [u32],
 ) -> Behind
-    requires { ⌜ Place (now kept) p ⌝ }
+    requires { ⌜ Place (now tokens) (now kept) p ⌝ }
     ensures { λ r. ⌜ SignatureRead 2 p (length (now (kept .entry)))
         (functionRest p (tokensFrom (now (text .entry)) (now (tokens .entry)) (now (kept .entry)) p))
         (now (arguments .entry)) r (now (arguments .exit)) ⌝ }

@@ -16,7 +16,7 @@ ghost use lib.Dec.{eqb};
 ghost use lib.ListN.{length};
 ghost use Rattle.tokens.specs.Kind.{Ident};
 ghost use Rattle.tokens.specs.Table.{put};
-ghost use Rattle.tokens.specs.Token.{view, tokenAt, kindAt, textAt};
+ghost use Rattle.tokens.specs.Token.{view, tokenAt, kindAt, textAt, Numbered};
 ghost use Rattle.grammar.specs.FileRecords.{entryType, tableNumber};
 ghost use Rattle.grammar.specs.FileGrammar.{entryAllowed};
 ghost use Rattle.grammar.specs.FileReader.{parseTableBody, tableRest, parseTable};
@@ -87,6 +87,7 @@ fn table_size(kind: TableKind, entries: usize, digits: usize) -> usize
 
 // An entry stands at place p: Ident, and in a code table all hex digits.
 fn is_entry(text: &[u8], tokens: &[u32], kept: &[u32], kind: TableKind, p: usize) -> bool
+    requires { ⌜ Numbered (now tokens) (now kept) ⌝ }
     ensures { λ r. ⌜ r ≡ (eqb (kindAt (now (tokens .entry)) (now (kept .entry)) p) Ident
         && entryAllowed (tableSort kind) (tokenAt (view (now (text .entry)) (now (tokens .entry)) (now (kept .entry))) p)) ⌝ }
 {
@@ -102,6 +103,7 @@ fn is_entry(text: &[u8], tokens: &[u32], kept: &[u32], kind: TableKind, p: usize
 
 // The bytes of the token at place p.
 fn text_length(text: &[u8], tokens: &[u32], kept: &[u32], p: usize) -> usize
+    requires { ⌜ Numbered (now tokens) (now kept) ⌝ }
     ensures { λ r. ⌜ r ≡ length (textAt (now (text .entry)) (now (tokens .entry)) (now (kept .entry)) p) ⌝ }
 {
     let part = text_at(text, tokens, kept, p);
@@ -179,6 +181,7 @@ pub fn parse_table_body(
 
 // The place behind a token of this kind that may stand at p.
 fn behind_sign(tokens: &[u32], kept: &[u32], kind: u32, p: usize) -> usize
+    requires { ⌜ Numbered (now tokens) (now kept) ⌝ }
     requires { ⌜ (0 < kind) × (p ≤ length (now kept)) ⌝ }
     ensures { λ r. ⌜ Past p (length (now (kept .entry))) (pastSign (now (tokens .entry)) (now (kept .entry)) kind p) r ⌝ }
 {
@@ -190,6 +193,7 @@ fn behind_sign(tokens: &[u32], kept: &[u32], kind: u32, p: usize) -> usize
 
 // The place behind a table's `(`, `)` and `=`, each of which may be missing.
 fn behind_signs(tokens: &[u32], kept: &[u32], p: usize) -> usize
+    requires { ⌜ Numbered (now tokens) (now kept) ⌝ }
     requires { ⌜ p ≤ length (now kept) ⌝ }
     ensures { λ r. ⌜ Past p (length (now (kept .entry))) (pastSigns (now (tokens .entry)) (now (kept .entry)) p) r ⌝ }
 {

@@ -37,9 +37,10 @@ use Rattle.statements.proofs.Pieces.{Piece, no-piece, piece-then, piece
 -- ---- the walk of a loop
 
 -- the counts behind what was read
-pub counting-next : {kept : List ℕ} {s t : Tally} {i a : ℕ} → Counting kept s i a → TallyWithin s (length kept) (Done t) → Counting kept t i a
+pub counting-next : {words kept : List ℕ} {s t : Tally} {i a : ℕ} → Counting words kept s i a → TallyWithin s (length kept) (Done t) → Counting words kept t i a
 counting-next g h =
     record {
+      numbered = g .numbered;
       few = g .few;
       inside = h .1;
       statements = omega (arith, g .statements, h .2);
@@ -50,9 +51,10 @@ counting-next g h =
     }
 
 -- and behind tokens that are passed over
-pub counting-skip : {kept : List ℕ} {s : Tally} {i a : ℕ} (n m b : ℕ) → Counting kept s i a → s .at + n ≤ length kept → m ≤ n → b ≤ n → Counting kept (skipped s n m b) i a
+pub counting-skip : {words kept : List ℕ} {s : Tally} {i a : ℕ} (n m b : ℕ) → Counting words kept s i a → s .at + n ≤ length kept → m ≤ n → b ≤ n → Counting words kept (skipped s n m b) i a
 counting-skip n m b g h hm hb =
     record {
+      numbered = g .numbered;
       few = g .few;
       inside = h;
       statements = omega (arith, g .statements);
@@ -63,8 +65,8 @@ counting-skip n m b g h hm hb =
     }
 
 -- the loop at t, with the tables as they are: whatever is promised of the rest from there is promised from the start
-pub record Walk (Left : Tally → List ℕ → List ℕ → Items → List ℕ → List ℕ → Type 0) (kept : List ℕ) (i a : ℕ) (t₀ : Tally) (st₀ ar₀ : List ℕ) (t : Tally) (st ar : List ℕ) : Type 0 where
-  pub counting : Counting kept t i a
+pub record Walk (Left : Tally → List ℕ → List ℕ → Items → List ℕ → List ℕ → Type 0) (words kept : List ℕ) (i a : ℕ) (t₀ : Tally) (st₀ ar₀ : List ℕ) (t : Tally) (st ar : List ℕ) : Type 0 where
+  pub counting : Counting words kept t i a
   pub sameStatements : length st ≡ length st₀
   pub sameArguments : length ar ≡ length ar₀
   pub onward : (r : Items) (st′ ar′ : List ℕ) → Left t st ar r st′ ar′ → Left t₀ st₀ ar₀ r st′ ar′
@@ -74,16 +76,16 @@ pub record Turn (Left : Tally → List ℕ → List ℕ → Items → List ℕ �
   pub forward : t .at < next .at
   pub step : (r : Items) (st′ ar′ : List ℕ) → Left next st₁ ar₁ r st′ ar′ → Left t st ar r st′ ar′
 
-pub walk-start : {Left : Tally → List ℕ → List ℕ → Items → List ℕ → List ℕ → Type 0} {kept : List ℕ} {i a : ℕ} {t : Tally} {st ar : List ℕ} → Counting kept t i a → Walk Left kept i a t st ar t st ar
+pub walk-start : {Left : Tally → List ℕ → List ℕ → Items → List ℕ → List ℕ → Type 0} {words kept : List ℕ} {i a : ℕ} {t : Tally} {st ar : List ℕ} → Counting words kept t i a → Walk Left words kept i a t st ar t st ar
 walk-start h = record { counting = h; sameStatements = refl; sameArguments = refl; onward = λ r st ar v. v }
 
-pub walk-step : {Left : Tally → List ℕ → List ℕ → Items → List ℕ → List ℕ → Type 0} {kept : List ℕ} {i a : ℕ} {t₀ t next : Tally} {st₀ ar₀ st ar st₁ ar₁ : List ℕ}
-    → Walk Left kept i a t₀ st₀ ar₀ t st ar
+pub walk-step : {Left : Tally → List ℕ → List ℕ → Items → List ℕ → List ℕ → Type 0} {words kept : List ℕ} {i a : ℕ} {t₀ t next : Tally} {st₀ ar₀ st ar st₁ ar₁ : List ℕ}
+    → Walk Left words kept i a t₀ st₀ ar₀ t st ar
     → TallyWithin t (length kept) (Done next)
     → length st₁ ≡ length st
     → length ar₁ ≡ length ar
     → Turn Left t next st ar st₁ ar₁
-    → Walk Left kept i a t₀ st₀ ar₀ next st₁ ar₁
+    → Walk Left words kept i a t₀ st₀ ar₀ next st₁ ar₁
 walk-step w h es ea turn =
     record {
       counting = counting-next (w .counting) h;
@@ -343,7 +345,7 @@ module _ (i a size : ℕ) (all : List Token) (s : Tally) where
           (ap (map argumentRecord) (append-nil (argumentsOf (flatten is)))))
 
   -- what the label's writer needs of the items
-  pub label-inside : {kept st ar st₁ ar₁ : List ℕ} {inner : Items} → Counting kept s i a → length kept ≡ size → ItemsLeft false 6 i a size all (skipped s 2 1 1) st ar inner st₁ ar₁ → LabelInside s inner
+  pub label-inside : {words kept st ar st₁ ar₁ : List ℕ} {inner : Items} → Counting words kept s i a → length kept ≡ size → ItemsLeft false 6 i a size all (skipped s 2 1 1) st ar inner st₁ ar₁ → LabelInside s inner
   label-inside {kept} {st} {ar} {st₁} {ar₁} {inner} g len v = go (items false 6 (s .at + 2) (drop (s .at + 2) all)) refl
     where
       go : (x : Res (List (List Simple))) → items false 6 (s .at + 2) (drop (s .at + 2) all) ≡ x → LabelInside s inner
@@ -473,8 +475,8 @@ braced {s} {t} {st = st} v h =
     }
 
 -- what the reader of the brace needs
-pub closed-inside : {kept : List ℕ} {s : Tally} {i a : ℕ} (r : Items) → Counting kept s i a → TallyWithin s (length kept) r → ClosedInside r
-closed-inside {kept} {i = i} {a = a} (Done t) g h = let n : Counting kept t i a = counting-next g h in (omega arith, omega arith, omega arith)
+pub closed-inside : {words kept : List ℕ} {s : Tally} {i a : ℕ} (r : Items) → Counting words kept s i a → TallyWithin s (length kept) r → ClosedInside r
+closed-inside {words} {kept} {i = i} {a = a} (Done t) g h = let n : Counting words kept t i a = counting-next g h in (omega arith, omega arith, omega arith)
 closed-inside (Refused c q) g h = tt
 
 -- the closing brace behind what was read

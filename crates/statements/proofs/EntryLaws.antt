@@ -16,6 +16,7 @@ use Rattle.tokens.specs.Door.{keptAfter, Prepared}
 use Rattle.tokens.specs.declared.door.Door.{Door}
 use Rattle.tokens.specs.declared.door.Door.the-variants.{Ready}
 use Rattle.tokens.proofs.DoorLaws.{LetThrough, ready, kept-few}
+use Rattle.tokens.proofs.KeptLaws.{kept-numbered}
 use Rattle.tokens.proofs.TableLaws.{cleared-none, Wide, records-then-zeros}
 use Rattle.grammar.specs.Reading.{Reading}
 use Rattle.grammar.specs.Rules.{base}
@@ -38,7 +39,7 @@ use Rattle.statements.specs.Settled.{settledItems, Settled, BodyRead}
 
 -- let through: the part of the kept list up to the count is what was kept
 pub kept-part : (text words : List ℕ) (start : ℕ) (kept : List ℕ) {kept′ : List ℕ} {d : Door} {n : ℕ} → Prepared text words start kept d kept′ → d ≡ Ready n
-    → (take (n - 0) kept′ ≡ keptOf words) × (n ≤ length kept′) × Place (keptOf words) start
+    → (take (n - 0) kept′ ≡ keptOf words) × (n ≤ length kept′) × Place words (keptOf words) start
 unfolding keptOf
 kept-part text words start kept {kept′} {d} {n} p e =
     let l : LetThrough text words start (length kept) n = ready text words start (length kept) (sym (p .answer) ∙ e) in
@@ -46,7 +47,7 @@ kept-part text words start kept {kept′} {d} {n} p e =
     let is : kept′ ≡ keptOf words ++ drop (0 + length (keptOf words)) kept = p .list ∙ ap (λ (x : Door). keptAfter x words kept) e ∙ sets-eq (keptOf words) kept 0 room in (
       ap (take (n - 0)) is ∙ take-at (keptOf words) (drop (0 + length (keptOf words)) kept) (n - 0) (omega (arith, l .count)),
       omega (arith, ap length is, length-append (keptOf words) (drop (0 + length (keptOf words)) kept), l .count),
-      record { few = omega (arith, kept-few words (tokenCount words) 0, l .few); inside = omega (arith, l .inside, l .count) },
+      record { numbered = kept-numbered words; few = omega (arith, kept-few words (tokenCount words) 0, l .few); inside = omega (arith, l .inside, l .count) },
     )
 
 -- ---- records, then zeros

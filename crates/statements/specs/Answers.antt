@@ -4,7 +4,7 @@ use mathlib.Core.Path.{_≡_}
 use mathlib.Core.Bool.{Bool, true, false, cond, _&&_}
 use mathlib.Core.List.{List, [], _∷_, map, flatten}
 use lib.ListN.{length, drop}
-use Rattle.tokens.specs.Token.{Token, view}
+use Rattle.tokens.specs.Token.{Token, view, Numbered}
 use Rattle.tokens.specs.Table.{putAll}
 use Rattle.tokens.specs.Kind.{Ident, RightAngle}
 use Rattle.grammar.specs.Reading.{NONE, Simple, Group, Reading, angled}
@@ -32,7 +32,8 @@ abbrev pub tokensFrom : List ℕ → List ℕ → List ℕ → ℕ → List Toke
 tokensFrom text words kept p = drop p (view text words kept)
 
 -- what the door promises of the kept list, and a place in it or at its end
-pub record Place (kept : List ℕ) (p : ℕ) : Type 0 where
+pub record Place (words kept : List ℕ) (p : ℕ) : Type 0 where
+  pub numbered : Numbered words kept
   pub few : length kept ≤ 65536
   pub inside : p ≤ length kept
 
@@ -129,7 +130,8 @@ partBytes true ss = mainBytes 0 ss
 partBytes false ss = innerBytes ss
 
 -- a tally, the numbers of records before the lent tables (i statements, a arguments), and what the calls need of them
-pub record Counting (kept : List ℕ) (s : Tally) (i a : ℕ) : Type 0 where
+pub record Counting (words kept : List ℕ) (s : Tally) (i a : ℕ) : Type 0 where
+  pub numbered : Numbered words kept
   pub few : length kept ≤ 65536
   pub inside : s .at ≤ length kept
   pub statements : s .statements ≤ s .at

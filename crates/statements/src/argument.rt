@@ -145,7 +145,7 @@ fn unnamed(first: usize, indexed: u32, location: u32, p: usize) -> Arg
 
 // What stands behind a call's `<` at p. No text is looked at: it is passed for the view that the promise speaks of.
 fn angled_rest(text: &[u8], tokens: &[u32], kept: &[u32], p: usize) -> Arg
-    requires { ⌜ Place (now kept) p ⌝ }
+    requires { ⌜ Place (now tokens) (now kept) p ⌝ }
     requires { ⌜ p < length (now kept) ⌝ }
     ensures { λ r. ⌜ ArgRead p (length (now (kept .entry)))
         (oneMore (angledRest p (suc p) (tokensFrom (now (text .entry)) (now (tokens .entry)) (now (kept .entry)) (suc p)))) r ⌝ }
@@ -161,7 +161,7 @@ fn angled_rest(text: &[u8], tokens: &[u32], kept: &[u32], p: usize) -> Arg
 
 // An argument of a call.
 fn call_argument(text: &[u8], tokens: &[u32], kept: &[u32], p: usize) -> Arg
-    requires { ⌜ Place (now kept) p ⌝ }
+    requires { ⌜ Place (now tokens) (now kept) p ⌝ }
     ensures { λ r. ⌜ ArgRead p (length (now (kept .entry))) (callArgument 0 p (tokensFrom (now (text .entry)) (now (tokens .entry)) (now (kept .entry)) p)) r ⌝ }
 {
     let k = kind_at(tokens, kept, p);
@@ -185,7 +185,7 @@ fn ident_here(
     first: usize,
     p: usize,
 ) -> Arg
-    requires { ⌜ Place (now kept) p ⌝ }
+    requires { ⌜ Place (now tokens) (now kept) p ⌝ }
     requires { ⌜ first ≤ p ⌝ }
     requires { ⌜ (p < length (now kept)) × (kindAt (now tokens) (now kept) p ≡ Ident) ⌝ }
     ensures { λ r. ⌜ RestRead first p (length (now (kept .entry))) (look (nameStep names (named location first p)) p (tokensFrom (now (text .entry)) (now (tokens .entry)) (now (kept .entry)) p)) r ⌝ }
@@ -209,7 +209,7 @@ fn name_here(
     first: usize,
     p: usize,
 ) -> Arg
-    requires { ⌜ Place (now kept) p ⌝ }
+    requires { ⌜ Place (now tokens) (now kept) p ⌝ }
     requires { ⌜ first ≤ p ⌝ }
     ensures { λ r. ⌜ RestRead first p (length (now (kept .entry))) (look (nameStep names (named location first p)) p (tokensFrom (now (text .entry)) (now (tokens .entry)) (now (kept .entry)) p)) r ⌝ }
 {
@@ -231,7 +231,7 @@ fn name_here(
 
 // An optional location, then a name.
 fn name_argument(text: &[u8], tokens: &[u32], kept: &[u32], names: usize, p: usize) -> Arg
-    requires { ⌜ Place (now kept) p ⌝ }
+    requires { ⌜ Place (now tokens) (now kept) p ⌝ }
     ensures { λ r. ⌜ ArgRead p (length (now (kept .entry))) (nameArgument names p (tokensFrom (now (text .entry)) (now (tokens .entry)) (now (kept .entry)) p)) r ⌝ }
 {
     let k = kind_at(tokens, kept, p);
@@ -246,7 +246,7 @@ fn name_argument(text: &[u8], tokens: &[u32], kept: &[u32], names: usize, p: usi
 
 // An argument of a builtin.
 fn builtin_argument(text: &[u8], tokens: &[u32], kept: &[u32], names: usize, p: usize) -> Arg
-    requires { ⌜ Place (now kept) p ⌝ }
+    requires { ⌜ Place (now tokens) (now kept) p ⌝ }
     ensures { λ r. ⌜ ArgRead p (length (now (kept .entry))) (builtinArgument names p (tokensFrom (now (text .entry)) (now (tokens .entry)) (now (kept .entry)) p)) r ⌝ }
 {
     let k = kind_at(tokens, kept, p);
@@ -268,7 +268,7 @@ fn typed_name(
     location: u32,
     p: usize,
 ) -> Arg
-    requires { ⌜ Place (now kept) p ⌝ }
+    requires { ⌜ Place (now tokens) (now kept) p ⌝ }
     requires { ⌜ first < p ⌝ }
     ensures { λ r. ⌜ RestRead first p (length (now (kept .entry))) (typedName first indexed location p (tokensFrom (now (text .entry)) (now (tokens .entry)) (now (kept .entry)) p)) r ⌝ }
 {
@@ -296,7 +296,7 @@ fn typed_location(
     indexed: u32,
     p: usize,
 ) -> Arg
-    requires { ⌜ Place (now kept) p ⌝ }
+    requires { ⌜ Place (now tokens) (now kept) p ⌝ }
     requires { ⌜ first < p ⌝ }
     ensures { λ r. ⌜ RestRead first p (length (now (kept .entry))) (typedRest first indexed p (tokensFrom (now (text .entry)) (now (tokens .entry)) (now (kept .entry)) p)) r ⌝ }
 {
@@ -319,7 +319,7 @@ fn typed_indexed(
     first: usize,
     p: usize,
 ) -> Arg
-    requires { ⌜ Place (now kept) p ⌝ }
+    requires { ⌜ Place (now tokens) (now kept) p ⌝ }
     requires { ⌜ first < p ⌝ }
     ensures { λ r. ⌜ RestRead first p (length (now (kept .entry)))
         (seq (indexedHere events) (typedRest first) p (tokensFrom (now (text .entry)) (now (tokens .entry)) (now (kept .entry)) p)) r ⌝ }
@@ -335,7 +335,7 @@ fn typed_indexed(
 
 // An argument of a typed list: a type, and what may stand behind it.
 fn typed_argument(text: &[u8], tokens: &[u32], kept: &[u32], events: bool, p: usize) -> Arg
-    requires { ⌜ Place (now kept) p ⌝ }
+    requires { ⌜ Place (now tokens) (now kept) p ⌝ }
     ensures { λ r. ⌜ ArgRead p (length (now (kept .entry))) (typedArgument events 0 p (tokensFrom (now (text .entry)) (now (tokens .entry)) (now (kept .entry)) p)) r ⌝ }
 {
     if kind_at(tokens, kept, p) != 45 {
@@ -353,7 +353,7 @@ pub fn one_argument(
     names: usize,
     p: usize,
 ) -> Arg
-    requires { ⌜ Place (now kept) p ⌝ }
+    requires { ⌜ Place (now tokens) (now kept) p ⌝ }
     ensures { λ r. ⌜ ArgRead p (length (now (kept .entry))) (one sort names p (tokensFrom (now (text .entry)) (now (tokens .entry)) (now (kept .entry)) p)) r ⌝ }
 {
     match sort {

@@ -9,6 +9,7 @@ ghost use mathlib.Core.Path.{_≡_};
 ghost use mathlib.Core.List.{[]};
 ghost use lib.ListN.{length};
 ghost use Prim.Native.Nat.{_≤_};
+ghost use Rattle.tokens.specs.Token.{Numbered};
 ghost use Rattle.grammar.specs.Rules.{base};
 ghost use Rattle.grammar.specs.Reader.{items, labelGroup, groups, bodyFrom};
 ghost use Rattle.statements.specs.Answers.{Counting, SimpleParsed, GroupsParsed, BodyParsed, flattened, oneGroup, tokensFrom};
@@ -28,7 +29,7 @@ pub fn parse_items(
     i: usize,
     a: usize,
 ) -> Items
-    requires { ⌜ Counting (now kept) s i a ⌝ }
+    requires { ⌜ Counting (now tokens) (now kept) s i a ⌝ }
     ensures { λ r. ⌜ SimpleParsed takes s i a (length (now (kept .entry)))
         (flattened (items takes wrong (s .at) (tokensFrom (now (text .entry)) (now (tokens .entry)) (now (kept .entry)) (s .at))))
         (now (statements .entry)) (now (arguments .entry)) r (now (statements .exit)) (now (arguments .exit)) ⌝ }
@@ -125,7 +126,7 @@ pub fn parse_label(
     i: usize,
     a: usize,
 ) -> Items
-    requires { ⌜ Counting (now kept) s i a ⌝ }
+    requires { ⌜ Counting (now tokens) (now kept) s i a ⌝ }
     ensures { λ r. ⌜ GroupsParsed s i a (length (now (kept .entry)))
         (oneGroup (labelGroup base [] (s .at) (tokensFrom (now (text .entry)) (now (tokens .entry)) (now (kept .entry)) (s .at))))
         (now (statements .entry)) (now (arguments .entry)) r (now (statements .exit)) (now (arguments .exit)) ⌝ }
@@ -164,7 +165,7 @@ pub fn parse_groups(
     i: usize,
     a: usize,
 ) -> Items
-    requires { ⌜ Counting (now kept) s i a ⌝ }
+    requires { ⌜ Counting (now tokens) (now kept) s i a ⌝ }
     ensures { λ r. ⌜ GroupsParsed s i a (length (now (kept .entry)))
         (groups base (s .at) (tokensFrom (now (text .entry)) (now (tokens .entry)) (now (kept .entry)) (s .at)))
         (now (statements .entry)) (now (arguments .entry)) r (now (statements .exit)) (now (arguments .exit)) ⌝ }
@@ -188,6 +189,7 @@ pub fn parse_groups(
 
 // The body's brace behind what was read.
 fn close(tokens: &[u32], kept: &[u32], r: Items) -> Items
+    requires { ⌜ Numbered (now tokens) (now kept) ⌝ }
     requires { ⌜ ClosedInside r ⌝ }
     ensures { λ q. ⌜ q ≡ closed (now (tokens .entry)) (now (kept .entry)) r ⌝ }
 {
@@ -214,7 +216,7 @@ pub fn parse_body(
     i: usize,
     a: usize,
 ) -> Items
-    requires { ⌜ Counting (now kept) s i a ⌝ }
+    requires { ⌜ Counting (now tokens) (now kept) s i a ⌝ }
     ensures { λ r. ⌜ BodyParsed s i a (length (now (kept .entry)))
         (bodyFrom base (s .at) (tokensFrom (now (text .entry)) (now (tokens .entry)) (now (kept .entry)) (s .at)))
         (now (statements .entry)) (now (arguments .entry)) r (now (statements .exit)) (now (arguments .exit)) ⌝ }

@@ -79,7 +79,7 @@ fn reading(
     statements: &mut [u32],
     arguments: &mut [u32],
 ) -> Body
-    requires { ⌜ Place (now kept) start ⌝ }
+    requires { ⌜ Place (now tokens) (now kept) start ⌝ }
     ensures { λ r. ⌜ BodyRead (now (text .entry)) (now (tokens .entry)) (now (kept .entry)) start (now (statements .entry)) (now (arguments .entry)) r (now (statements .exit)) (now (arguments .exit)) ⌝ }
 {
     let s = Tally {

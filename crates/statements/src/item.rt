@@ -71,7 +71,7 @@ pub enum Item {
 
 // A name between two signs, the opening one at p.
 fn enclosed(tokens: &[u32], kept: &[u32], p: usize, wrong: u32, close: u32, ty: u32) -> Item
-    requires { ⌜ Place (now kept) p ⌝ }
+    requires { ⌜ Place (now tokens) (now kept) p ⌝ }
     ensures { λ r. ⌜ r ≡ enclosedItem wrong close ty p (kindAt (now (tokens .entry)) (now (kept .entry)) (p + 1)) (kindAt (now (tokens .entry)) (now (kept .entry)) (p + 2)) ⌝ }
 {
     if kind_at(tokens, kept, p + 1) != 38 {
@@ -91,7 +91,7 @@ fn enclosed(tokens: &[u32], kept: &[u32], p: usize, wrong: u32, close: u32, ty: 
 
 // `[` Ident `]`, from its bracket.
 pub fn parse_constant_push(tokens: &[u32], kept: &[u32], p: usize) -> Item
-    requires { ⌜ Place (now kept) p ⌝ }
+    requires { ⌜ Place (now tokens) (now kept) p ⌝ }
     ensures { λ r. ⌜ r ≡ enclosedItem 12 CloseBracket 6 p (kindAt (now (tokens .entry)) (now (kept .entry)) (p + 1)) (kindAt (now (tokens .entry)) (now (kept .entry)) (p + 2)) ⌝ }
 {
     enclosed(tokens, kept, p, 12, 32, 6)
@@ -99,7 +99,7 @@ pub fn parse_constant_push(tokens: &[u32], kept: &[u32], p: usize) -> Item
 
 // `<` Ident `>`, from its angle.
 pub fn parse_arg_call(tokens: &[u32], kept: &[u32], p: usize) -> Item
-    requires { ⌜ Place (now kept) p ⌝ }
+    requires { ⌜ Place (now tokens) (now kept) p ⌝ }
     ensures { λ r. ⌜ r ≡ enclosedItem 13 RightAngle 7 p (kindAt (now (tokens .entry)) (now (kept .entry)) (p + 1)) (kindAt (now (tokens .entry)) (now (kept .entry)) (p + 2)) ⌝ }
 {
     enclosed(tokens, kept, p, 13, 34, 7)
@@ -107,7 +107,7 @@ pub fn parse_arg_call(tokens: &[u32], kept: &[u32], p: usize) -> Item
 
 // The opcode at p; where a value push takes its literal, with that.
 fn opcode_item(text: &[u8], tokens: &[u32], kept: &[u32], takes: bool, p: usize) -> Item
-    requires { ⌜ Place (now kept) p ⌝ }
+    requires { ⌜ Place (now tokens) (now kept) p ⌝ }
     ensures { λ r. ⌜ r ≡ opcodeItem takes p (extraAt (now (tokens .entry)) (now (kept .entry)) p) (kindAt (now (tokens .entry)) (now (kept .entry)) (p + 1)) (textAt (now (text .entry)) (now (tokens .entry)) (now (kept .entry)) (p + 1)) ⌝ }
 {
     if !takes {
@@ -140,7 +140,7 @@ fn opcode_item(text: &[u8], tokens: &[u32], kept: &[u32], takes: bool, p: usize)
 
 // The Ident at p: a call if a `(` stands behind it, else a label call.
 fn ident_item(tokens: &[u32], kept: &[u32], p: usize) -> Item
-    requires { ⌜ Place (now kept) p ⌝ }
+    requires { ⌜ Place (now tokens) (now kept) p ⌝ }
     ensures { λ r. ⌜ r ≡ identItem p (kindAt (now (tokens .entry)) (now (kept .entry)) (p + 1)) ⌝ }
 {
     if kind_at(tokens, kept, p + 1) == 27 {
@@ -165,7 +165,7 @@ fn one_item(
     p: usize,
     k: u32,
 ) -> Item
-    requires { ⌜ Place (now kept) p ⌝ }
+    requires { ⌜ Place (now tokens) (now kept) p ⌝ }
     requires { ⌜ KindAt (now tokens) (now kept) p k ⌝ }
     ensures { λ r. ⌜ ItemRead takes p (length (now (kept .entry))) (view (now (text .entry)) (now (tokens .entry)) (now (kept .entry)))
         (item takes wrong p (tokensFrom (now (text .entry)) (now (tokens .entry)) (now (kept .entry)) p)) r ⌝ }
@@ -330,7 +330,7 @@ fn parse_called(
     i: usize,
     a: usize,
 ) -> Items
-    requires { ⌜ Counting (now kept) s i a ⌝ }
+    requires { ⌜ Counting (now tokens) (now kept) s i a ⌝ }
     requires { ⌜ s .at < length (now kept) ⌝ }
     ensures { λ r. ⌜ ListPut s i a ty (length (now (kept .entry)))
         (expect OpenParen (plain 1) (λ o. closedList (one sort)) (s .at + 1) (tokensFrom (now (text .entry)) (now (tokens .entry)) (now (kept .entry)) (s .at + 1)))
@@ -357,7 +357,7 @@ pub fn parse_item(
     a: usize,
     k: u32,
 ) -> Items
-    requires { ⌜ Counting (now kept) s i a ⌝ }
+    requires { ⌜ Counting (now tokens) (now kept) s i a ⌝ }
     requires { ⌜ KindAt (now tokens) (now kept) (s .at) k ⌝ }
     ensures { λ r. ⌜ SimpleParsed takes s i a (length (now (kept .entry)))
         (item takes wrong (s .at) (tokensFrom (now (text .entry)) (now (tokens .entry)) (now (kept .entry)) (s .at)))

@@ -48,7 +48,7 @@ pub fn parse_list(
     arguments: &mut [u32],
     n: usize,
 ) -> ArgList
-    requires { ⌜ Place (now kept) p ⌝ }
+    requires { ⌜ Place (now tokens) (now kept) p ⌝ }
     requires { ⌜ n ≤ 65536 ⌝ }
     ensures { λ r. ⌜ ListRead n p (length (now (kept .entry)))
         (closedList (one sort) p (tokensFrom (now (text .entry)) (now (tokens .entry)) (now (kept .entry)) p))
@@ -91,7 +91,7 @@ pub fn parse_args(
     arguments: &mut [u32],
     n: usize,
 ) -> ArgList
-    requires { ⌜ Place (now kept) p ⌝ }
+    requires { ⌜ Place (now tokens) (now kept) p ⌝ }
     requires { ⌜ n ≤ 65536 ⌝ }
     ensures { λ r. ⌜ ListRead n p (length (now (kept .entry)))
         (expect OpenParen (plain 1) (λ o. closedList (one sort)) p (tokensFrom (now (text .entry)) (now (tokens .entry)) (now (kept .entry)) p))

@@ -13,7 +13,7 @@ pub enum Single {
 
 // `(` Num `)`. No text is looked at: it is passed for the view that the promise speaks of.
 pub fn parse_single_arg(text: &[u8], tokens: &[u32], kept: &[u32], p: usize) -> Single
-    requires { ⌜ Place (now kept) p ⌝ }
+    requires { ⌜ Place (now tokens) (now kept) p ⌝ }
     ensures { λ r. ⌜ SingleRead p (length (now (kept .entry))) (singleNumber p (tokensFrom (now (text .entry)) (now (tokens .entry)) (now (kept .entry)) p)) r ⌝ }
 {
     if kind_at(tokens, kept, p) != 27 {

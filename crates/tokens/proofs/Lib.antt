@@ -4,5 +4,6 @@ pub mod Value
 pub mod NameLaws
 pub mod DoorLaws
 pub mod ViewLaws
+pub mod KeptLaws
 pub mod Fixed
 pub mod TableLaws

@@ -1,5 +1,5 @@
 -- A token as the grammar sees it, and how the lent words hold it: four a token, kind, start, end, extra.
-use Prim.Native.Nat.{ℕ, _+_, _-_, _*_, _/_, _≤_}
+use Prim.Native.Nat.{ℕ, _+_, _-_, _*_, _/_, _≤_, _<_}
 use mathlib.Core.Path.{_≡_}
 use mathlib.Core.List.{List, [], map}
 use mathlib.Core.Bool.{cond}
@@ -50,6 +50,10 @@ view text words kept = map (tokenOf text words) kept
 -- the token at a place of a view, past its end an Eof
 abbrev pub tokenAt : List Token → ℕ → Token
 tokenAt tokens p = getD tokens p eofToken
+
+-- every number of a kept list is that of a token
+pub record Numbered (words kept : List ℕ) : Type 0 where
+  pub below : (p : ℕ) → p < length kept → getD kept p 0 < tokenCount words
 
 -- word j of the token at place p of the kept list, past its end 0: the kind (Eof there), the start, the end, the extra
 unfoldable pub fieldAt : ℕ → List ℕ → List ℕ → ℕ → ℕ

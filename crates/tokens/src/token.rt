@@ -1,8 +1,9 @@
-// A token by its place in the kept list. Every accessor is total: past the end stands an Eof with no text.
+// A token by its place in the kept list. Every place may be asked: past the end stands an Eof with no text. That the numbers of the kept list are those of tokens
+// is the door's promise, so it is not tested again for each token.
 ghost use mathlib.Core.Path.{_≡_};
 ghost use Prim.Native.Nat.{_≤_, min};
 ghost use lib.ListN.{getD};
-ghost use Rattle.tokens.specs.Token.{fieldAt, startAt, endAt, extraAt, part, textAt, KindAt};
+ghost use Rattle.tokens.specs.Token.{fieldAt, startAt, endAt, extraAt, part, textAt, KindAt, Numbered};
 
 // The word at an index, past the end 0.
 pub fn word_at(words: &[u32], i: usize) -> u32
@@ -13,12 +14,13 @@ pub fn word_at(words: &[u32], i: usize) -> u32
 
 // Word j of the token at place p: kind, start, end, extra.
 fn field_at(tokens: &[u32], kept: &[u32], p: usize, j: usize) -> u32
+    requires { ⌜ Numbered (now tokens) (now kept) ⌝ }
     requires { ⌜ j ≤ 3 ⌝ }
     ensures { λ r. ⌜ r ≡ fieldAt j (now (tokens .entry)) (now (kept .entry)) p ⌝ }
 {
     if p < kept.len() {
         let number = kept[p] as usize;
-        word_at(tokens, number * 4 + j)
+        tokens[number * 4 + j]
     } else {
         0
     }
@@ -26,6 +28,7 @@ fn field_at(tokens: &[u32], kept: &[u32], p: usize, j: usize) -> u32
 
 // The kind at place p. A kind that is not Eof's tells that p lies inside the kept list.
 pub fn kind_at(tokens: &[u32], kept: &[u32], p: usize) -> u32
+    requires { ⌜ Numbered (now tokens) (now kept) ⌝ }
     ensures { λ r. ⌜ KindAt (now (tokens .entry)) (now (kept .entry)) p r ⌝ }
 {
     field_at(tokens, kept, p, 0)
@@ -33,6 +36,7 @@ pub fn kind_at(tokens: &[u32], kept: &[u32], p: usize) -> u32
 
 // Where the text of the token at place p starts.
 pub fn start_at(tokens: &[u32], kept: &[u32], p: usize) -> u32
+    requires { ⌜ Numbered (now tokens) (now kept) ⌝ }
     ensures { λ r. ⌜ r ≡ startAt (now (tokens .entry)) (now (kept .entry)) p ⌝ }
 {
     field_at(tokens, kept, p, 1)
@@ -40,6 +44,7 @@ pub fn start_at(tokens: &[u32], kept: &[u32], p: usize) -> u32
 
 // Where it ends.
 pub fn end_at(tokens: &[u32], kept: &[u32], p: usize) -> u32
+    requires { ⌜ Numbered (now tokens) (now kept) ⌝ }
     ensures { λ r. ⌜ r ≡ endAt (now (tokens .entry)) (now (kept .entry)) p ⌝ }
 {
     field_at(tokens, kept, p, 2)
@@ -47,6 +52,7 @@ pub fn end_at(tokens: &[u32], kept: &[u32], p: usize) -> u32
 
 // Its extra: an opcode's byte, a number's value.
 pub fn extra_at(tokens: &[u32], kept: &[u32], p: usize) -> u32
+    requires { ⌜ Numbered (now tokens) (now kept) ⌝ }
     ensures { λ r. ⌜ r ≡ extraAt (now (tokens .entry)) (now (kept .entry)) p ⌝ }
 {
     field_at(tokens, kept, p, 3)
@@ -74,6 +80,7 @@ pub fn part_of(text: &[u8], start: usize, end: usize) -> &[u8]
 
 // The text of the token at place p, as a part of the text.
 pub fn text_at<'a>(text: &'a [u8], tokens: &[u32], kept: &[u32], p: usize) -> &'a [u8]
+    requires { ⌜ Numbered (now tokens) (now kept) ⌝ }
     ensures { λ r. ⌜ now r ≡ textAt (now (text .entry)) (now (tokens .entry)) (now (kept .entry)) p ⌝ }
 {
     let start = start_at(tokens, kept, p) as usize;

@@ -30,7 +30,7 @@ value-behind-requires c κs =
     let args = c .before .before .before .before .before .before .args in
     let all = view (args .text .now) (args .tokens .now) (args .kept .now) in
     let h : Headed all 11 (args .p) (length (args .kept .now)) heads.Named = rw (c .enum-told .given .1) at (c .before .before .read-head .ensures) in
-    record { few = omega arith; inside = omega (arith, h .2) }
+    record { numbered = c .before .before .before .before .before .before .pre .numbered; few = omega arith; inside = omega (arith, h .2) }
 
 enum-known-v : tie.Need-enum-known-v
 enum-known-v c = search needs

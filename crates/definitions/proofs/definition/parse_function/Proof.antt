@@ -28,7 +28,7 @@ function-behind-requires c κs =
     let args = c .before .before .before .before .before .before .before .before .before .before .args in
     let all = view (args .text .now) (args .tokens .now) (args .kept .now) in
     let h : Headed all 9 (args .p) (length (args .kept .now)) heads.Named = rw (c .before .enum-told .given .1) at (c .before .before .before .read-head .ensures) in
-    record { few = omega arith; inside = omega (arith, h .2) }
+    record { numbered = c .before .before .before .before .before .before .before .before .before .before .pre .numbered; few = omega arith; inside = omega (arith, h .2) }
 
 add-put-signature : tie.Need-add-put-signature
 add-put-signature c = search needs

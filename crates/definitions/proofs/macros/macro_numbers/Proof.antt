@@ -15,7 +15,7 @@ enum-known-takes : tie.Need-enum-known-takes
 enum-known-takes c = search needs
 
 takes-or-returns-requires-2 : tie.Need-takes-or-returns-requires-2
-takes-or-returns-requires-2 c κs = let h = rw (c .before .takes .given .1) at (c .before .before .before .takes-or-returns .ensures .within) in (record { few = c .before .before .before .before .before .before .before .pre .few; inside = h .1 }, omega arith)
+takes-or-returns-requires-2 c κs = let h = rw (c .before .takes .given .1) at (c .before .before .before .takes-or-returns .ensures .within) in (record { numbered = c .before .before .before .before .before .before .before .pre .numbered; few = c .before .before .before .before .before .before .before .pre .few; inside = h .1 }, omega arith)
 
 enum-known-d : tie.Need-enum-known-d
 enum-known-d c = search needs

@@ -20,7 +20,7 @@ macro-tail-requires c κs =
     let h = rw (c .before .before .before .before .n .given .1) at (c .before .before .before .before .before .before .before .before .macro-head .ensures .within) in
     let begun = c .before .before .before .before .before .before .before .before .before .before .before .before .before .before .before .before .pre .0 .begun in
     let named = c .before .before .before .before .before .before .before .before .before .before .before .before .before .before .before .before .pre .1 .0 in
-    (record { few = c .before .before .before .before .before .before .before .before .before .before .before .before .before .before .before .before .pre .0 .few; lined = c .before .before .before .before .before .before .before .before .before .before .before .before .before .before .before .before .pre .0 .lined; inside = h .1; begun = omega arith; statementsBefore = c .before .before .before .before .before .before .before .before .before .before .before .before .before .before .before .before .pre .0 .statementsBefore; argumentsBefore = c .before .before .before .before .before .before .before .before .before .before .before .before .before .before .before .before .pre .0 .argumentsBefore }, (omega arith, omega arith))
+    (record { numbered = c .before .before .before .before .before .before .before .before .before .before .before .before .before .before .before .before .pre .0 .numbered; few = c .before .before .before .before .before .before .before .before .before .before .before .before .before .before .before .before .pre .0 .few; lined = c .before .before .before .before .before .before .before .before .before .before .before .before .before .before .before .before .pre .0 .lined; inside = h .1; begun = omega arith; statementsBefore = c .before .before .before .before .before .before .before .before .before .before .before .before .before .before .before .before .pre .0 .statementsBefore; argumentsBefore = c .before .before .before .before .before .before .before .before .before .before .before .before .before .before .before .before .pre .0 .argumentsBefore }, (omega arith, omega arith))
 
 same-length : tie.Need-same-length
 same-length c = search needs

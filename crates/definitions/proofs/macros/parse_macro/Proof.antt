@@ -52,7 +52,7 @@ macro-rest-requires : tie.Need-macro-rest-requires
 macro-rest-requires c κs =
     let few = c .before .before .before .before .before .before .before .before .before .before .before .before .before .before .pre .few in
     let begun = c .before .before .before .before .before .before .before .before .before .before .before .before .before .before .pre .begun in
-    (record { few = c .before .before .before .before .before .before .before .before .before .before .before .before .before .before .pre .few; lined = c .before .before .before .before .before .before .before .before .before .before .before .before .before .before .pre .lined; inside = omega arith; begun = omega arith; statementsBefore = c .before .before .before .before .before .before .before .before .before .before .before .before .before .before .pre .statementsBefore; argumentsBefore = c .before .before .before .before .before .before .before .before .before .before .before .before .before .before .pre .argumentsBefore }, (omega arith, (omega arith, omega arith)))
+    (record { numbered = c .before .before .before .before .before .before .before .before .before .before .before .before .before .before .pre .numbered; few = c .before .before .before .before .before .before .before .before .before .before .before .before .before .before .pre .few; lined = c .before .before .before .before .before .before .before .before .before .before .before .before .before .before .pre .lined; inside = omega arith; begun = omega arith; statementsBefore = c .before .before .before .before .before .before .before .before .before .before .before .before .before .before .pre .statementsBefore; argumentsBefore = c .before .before .before .before .before .before .before .before .before .before .before .before .before .before .pre .argumentsBefore }, (omega arith, (omega arith, omega arith)))
 
 same-length : tie.Need-same-length
 same-length c = search needs

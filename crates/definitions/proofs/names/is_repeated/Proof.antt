@@ -18,7 +18,7 @@ bit-of-requires c κs = search needs
 
 returns : tie.Need-returns
 unfolding markBit
-returns c = sym (unmarked _ _ _ _ _ _ _ (c .before .before .before .before .before .before .before .before .before .before .before .pre .0) (c .before .before .before .before .before .before .before .before .before .before .before .pre .1) false (c .before .before .before .low-byte .ensures .0) (c .before .bit-of .ensures) (c .if1 .taken))
+returns c = sym (unmarked _ _ _ _ _ _ _ (c .before .before .before .before .before .before .before .before .before .before .before .pre .1 .0) (c .before .before .before .before .before .before .before .before .before .before .before .pre .1 .1) false (c .before .before .before .low-byte .ensures .0) (c .before .bit-of .ensures) (c .if1 .taken))
 
 high-byte-requires : tie.Need-high-byte-requires
 high-byte-requires c κs = search needs
@@ -31,7 +31,7 @@ bit-of-requires-2 c κs = search needs
 
 returns-2 : tie.Need-returns-2
 unfolding markBit
-returns-2 c = sym (unmarked _ _ _ _ _ _ _ (c .before .before .before .before .before .before .before .before .before .before .before .before .before .before .before .pre .0) (c .before .before .before .before .before .before .before .before .before .before .before .before .before .before .before .pre .1) true (c .before .before .before .high-byte .ensures .0) (c .before .bit-of2 .ensures) (c .if2 .taken))
+returns-2 c = sym (unmarked _ _ _ _ _ _ _ (c .before .before .before .before .before .before .before .before .before .before .before .before .before .before .before .pre .1 .0) (c .before .before .before .before .before .before .before .before .before .before .before .before .before .before .before .pre .1 .1) true (c .before .before .before .high-byte .ensures .0) (c .before .bit-of2 .ensures) (c .if2 .taken))
 
 is-remembered-requires : tie.Need-is-remembered-requires
 is-remembered-requires c κs = search needs

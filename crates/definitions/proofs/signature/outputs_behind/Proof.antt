@@ -41,7 +41,7 @@ add-parse-args : tie.Need-add-parse-args
 add-parse-args c = search needs
 
 parse-args-requires : tie.Need-parse-args-requires
-parse-args-requires c κs = search needs
+parse-args-requires c κs = (record { numbered = c .before .before .before .before .before .before .before .before .before .pre .0 .numbered; few = omega arith; inside = omega arith }, omega arith)
 
 enum-known-m : tie.Need-enum-known-m
 enum-known-m c = search needs

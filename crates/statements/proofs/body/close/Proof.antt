@@ -13,7 +13,7 @@ returns : tie.Need-returns
 returns c = rw (c .before .before .before .r .given .1) (rw (test-no (c .before .kind-at .ensures .is) (c .if1 .taken)))
 
 skip-requires : tie.Need-skip-requires
-skip-requires c κs = let h = rw (c .before .before .before .r .given .1) at (c .before .before .before .before .before .before .before .pre) in search needs
+skip-requires c κs = let h = rw (c .before .before .before .r .given .1) at (c .before .before .before .before .before .before .before .pre .1) in search needs
 
 enum-known-r-2 : tie.Need-enum-known-r-2
 enum-known-r-2 c = search needs

@@ -10,7 +10,7 @@ use Rattle.statements.proofs.body.parse_groups.Statement.{statement}
 use Rattle.statements.proofs.body.parse_groups.Tie as tie
 
 abbrev Inv-loop : tie.InvT-loop
-Inv-loop text tokens kept statements₀ arguments₀ i a t₀ statements arguments t = Walk (GroupsLeft i a (length kept) (view text tokens kept)) kept i a t₀ statements₀ arguments₀ t statements arguments
+Inv-loop text tokens kept statements₀ arguments₀ i a t₀ statements arguments t = Walk (GroupsLeft i a (length kept) (view text tokens kept)) tokens kept i a t₀ statements₀ arguments₀ t statements arguments
 
 abbrev μ-loop : tie.MeasureT-loop
 μ-loop text tokens kept statements₀ arguments₀ i a t₀ statements arguments t = length kept - t .at

@@ -10,7 +10,7 @@ use Rattle.statements.proofs.body.parse_items.Statement.{statement}
 use Rattle.statements.proofs.body.parse_items.Tie as tie
 
 abbrev Inv-loop : tie.InvT-loop
-Inv-loop text tokens kept takes wrong statements₀ arguments₀ i a t₀ statements arguments t = Walk (ItemsLeft takes wrong i a (length kept) (view text tokens kept)) kept i a t₀ statements₀ arguments₀ t statements arguments
+Inv-loop text tokens kept takes wrong statements₀ arguments₀ i a t₀ statements arguments t = Walk (ItemsLeft takes wrong i a (length kept) (view text tokens kept)) tokens kept i a t₀ statements₀ arguments₀ t statements arguments
 
 abbrev μ-loop : tie.MeasureT-loop
 μ-loop text tokens kept takes wrong statements₀ arguments₀ i a t₀ statements arguments t = length kept - t .at

@@ -11,7 +11,7 @@ add-p c = search needs
 parse-args-requires : tie.Need-parse-args-requires
 parse-args-requires c κs =
     let g = c .before .before .before .before .before .before .before .pre in
-    (record { few = g .0 .few; inside = omega (arith, g .1) }, omega arith)
+    (record { numbered = g .0 .numbered; few = g .0 .few; inside = omega (arith, g .1) }, omega arith)
 
 put-called-requires : tie.Need-put-called-requires
 put-called-requires c κs =

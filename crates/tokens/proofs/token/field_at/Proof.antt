@@ -12,22 +12,25 @@ shared-slice-read-number : tie.Need-shared-slice-read-number
 shared-slice-read-number c = search needs
 
 cast-number : tie.Need-cast-number
-cast-number c = omega (arith, c .shared-slice-known3 .given (c .before .before .before .before .args .p))
+cast-number c = omega (arith, c .shared-slice-known .given (c .before .before .args .p))
 
-mul-word-at : tie.Need-mul-word-at
-mul-word-at c = omega (arith, c .shared-slice-known3 .given (c .before .before .before .before .args .p))
+mul-result : tie.Need-mul-result
+mul-result c = omega (arith, c .shared-slice-known .given (c .before .before .args .p))
 
-add-word-at : tie.Need-add-word-at
-add-word-at c = omega (arith, c .shared-slice-known3 .given (c .before .before .before .before .args .p))
+add-result : tie.Need-add-result
+add-result c = omega (arith, c .shared-slice-known .given (c .before .before .args .p))
 
-word-at-requires : tie.Need-word-at-requires
-word-at-requires c κs = search needs
+mul-result-2 : tie.Need-mul-result-2
+mul-result-2 c = omega (arith, c .shared-slice-known .given (c .before .before .args .p))
+
+shared-slice-read-result : tie.Need-shared-slice-read-result
+shared-slice-read-result c = omega (arith, c .before .before .before .pre .0 .below (c .before .before .before .args .p) (c .before .before .if1 .taken))
 
 returns : tie.Need-returns
 unfolding fieldAt
 returns c =
     let t = c .before .before .if1 .taken in
-    simp tests (c .word-at .ensures)
+    simp tests
 
 returns-2 : tie.Need-returns-2
 unfolding fieldAt
@@ -42,8 +45,9 @@ field-at-spec =
     mul-number
     shared-slice-read-number
     cast-number
-    mul-word-at
-    add-word-at
-    word-at-requires
+    mul-result
+    add-result
+    mul-result-2
+    shared-slice-read-result
     returns
     returns-2)
