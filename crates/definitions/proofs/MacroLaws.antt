@@ -245,7 +245,7 @@ bodyBehind n = seq (bodyFrom base) (λ r q ts. got (n, r) 0)
 
 -- the tally that a body starts with, behind n declared arguments
 abbrev pub start : ℕ → ℕ → Tally
-start e n = record { at = e; statements = 0; arguments = n; bytes = 0; plain = true }
+start e n = record { at = e; statements = 0; arguments = n }
 
 module _ {kind first name n q i a size : ℕ} {de st ar de′ st′ ar′ : List ℕ} (all : List Token) where
   tail-refused : {c w : ℕ} {x : Res ((ℕ × ℕ) × Reading)} → Stops x c w → TailParsed kind first name n q i a size x de st ar (defs.Refused c w) de′ st′ ar′

@@ -173,8 +173,6 @@ fn macro_tail(
                 at: e,
                 statements: 0,
                 arguments: n,
-                bytes: 0,
-                plain: true,
             };
             match parse_body(text, tokens, kept, s, statements, arguments, i, a) {
                 Items::Refused(d, x) => DefRead::Refused(d, x),

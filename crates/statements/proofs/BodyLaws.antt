@@ -4,7 +4,7 @@ use native.Mathlib.Nat.{add-zero, add-assoc, zero-add}
 use native.Mathlib.Numerals.{add-one}
 use native.Mathlib.Omega.{arith}
 use mathlib.Core.Path.{_≡_, refl, sym, ap, _∙_}
-use mathlib.Core.Bool.{Bool, true, false, cond, _&&_, and-true, and-assoc}
+use mathlib.Core.Bool.{Bool, true, false, cond}
 use mathlib.Core.List.{List, [], _∷_, _++_, map, map-append, append-nil, append-assoc, flatten}
 use lib.ListN.{length, drop, length-append, length-map}
 use lib.Dec.{eqb}
@@ -16,11 +16,10 @@ use Rattle.tokens.proofs.ViewLaws.{view-kind}
 use Rattle.tokens.proofs.TableLaws.{put-late}
 use Rattle.grammar.specs.Reading.{Simple, Group, Reading}
 use Rattle.grammar.specs.Rules.{base}
-use Rattle.grammar.specs.Grammar.{Item, literal, opcode, push, labelCall, invocation, constant, argumentCall, builtin, LabelGroup, forget, remember}
+use Rattle.grammar.specs.Grammar.{Item, LabelGroup, forget, remember}
 use Rattle.grammar.specs.Result.{Why, plain, number, beyond, Res, got, bad, Step, refuse, on, stepped, look, choose, oneMore, expect, counted, consed, joined, seq, bind, less, many}
 use Rattle.grammar.specs.Reader.{itemTable, item, endsItems, items, groupRest, labelGroup, endsGroups, groups, bodyFrom}
 use Rattle.grammar.specs.Records.{simpleRecord, argumentRecord, argumentsOf, groupArguments, simpleRecords, groupRecords, groupCount, statementRecords, argumentRecords, statementCount, argumentCount, allArguments}
-use Rattle.grammar.specs.PlainLength.{mainBytes, innerBytes, groupBytes, allMeasured, groupsMeasured}
 use Rattle.grammar.proofs.AtPlace.{look-at, seq-got, seq-bad, many-ends, many-goes}
 use Rattle.grammar.proofs.Holds.{Holds, well, NoneOrOne, many-on, many-stop}
 use Rattle.grammar.proofs.Sound.{item-holds, item-some, plain-number, group-holds, group-some}
@@ -28,7 +27,7 @@ use Rattle.grammar.proofs.Recorded.{as-many}
 use Rattle.statements.specs.declared.item.Tally.{Tally}
 use Rattle.statements.specs.declared.item.Items.{Items}
 use Rattle.statements.specs.declared.item.Items.the-variants.{Done, Refused}
-use Rattle.statements.specs.Answers.{Counting, TallyWithin, tallied, partBytes, simpleAnswer, groupsAnswer, bodyAnswer, simpleArguments, groupsArguments, SimpleParsed, GroupsParsed, BodyParsed, flattened, oneGroup}
+use Rattle.statements.specs.Answers.{Counting, TallyWithin, tallied, simpleAnswer, groupsAnswer, bodyAnswer, simpleArguments, groupsArguments, SimpleParsed, GroupsParsed, BodyParsed, flattened, oneGroup}
 use Rattle.statements.specs.Label.{skipped, labelWords, LabelPut, LabelInside, closed, ClosedInside}
 use Rattle.statements.proofs.At.{many-bad, test-no, kind-here, kind-inside, expect-taken, expect-refused}
 use Rattle.statements.proofs.StatementLaws.{tally-same}
@@ -45,21 +44,19 @@ counting-next g h =
       inside = h .1;
       statements = omega (arith, g .statements, h .2);
       arguments = omega (arith, g .arguments, h .3);
-      bytes = omega (arith, g .bytes, h .4);
       statementsBefore = g .statementsBefore;
       argumentsBefore = g .argumentsBefore;
     }
 
 -- and behind tokens that are passed over
-pub counting-skip : {words kept : List ℕ} {s : Tally} {i a : ℕ} (n m b : ℕ) → Counting words kept s i a → s .at + n ≤ length kept → m ≤ n → b ≤ n → Counting words kept (skipped s n m b) i a
-counting-skip n m b g h hm hb =
+pub counting-skip : {words kept : List ℕ} {s : Tally} {i a : ℕ} (n m : ℕ) → Counting words kept s i a → s .at + n ≤ length kept → m ≤ n → Counting words kept (skipped s n m) i a
+counting-skip n m g h hm =
     record {
       numbered = g .numbered;
       few = g .few;
       inside = h;
       statements = omega (arith, g .statements);
       arguments = omega (arith, g .arguments);
-      bytes = omega (arith, g .bytes);
       statementsBefore = g .statementsBefore;
       argumentsBefore = g .argumentsBefore;
     }
@@ -101,11 +98,6 @@ unfolding argumentsOf
 arguments-append [] v = refl
 arguments-append (x ∷ u) v = ap (λ l. x .args ++ l) (arguments-append u v) ∙ sym (append-assoc (x .args) (argumentsOf u) (argumentsOf v))
 
-measured-append : (u v : List Simple) → allMeasured (u ++ v) ≡ (allMeasured u && allMeasured v)
-unfolding allMeasured
-measured-append [] v = refl
-measured-append (x ∷ u) v = rw (measured-append u v, and-assoc)
-
 records-append : (u v : List Simple) (i a : ℕ) → simpleRecords i a (u ++ v) ≡ simpleRecords i a u ++ simpleRecords (i + length u) (a + length (argumentsOf u)) v
 unfolding simpleRecords argumentsOf
 records-append [] v i a = rw (add-zero i, add-zero a)
@@ -120,12 +112,7 @@ unfolding statementRecords statementCount groupRecords groupCount
 simple-count u i a =
     ap length (sym (append-nil (simpleRecords i a u))) ∙ as-many i a (record { main = u; groups = [] }) .0 ∙ add-zero (length u)
 
-inner-append : (u v : List Simple) → innerBytes (u ++ v) ≡ innerBytes u + innerBytes v
-unfolding innerBytes
-inner-append [] v = rw zero-add
-inner-append (x ∷ u) v = rw (inner-append u v, add-assoc)
-
--- ---- a unit's shape
+-- ---- a unit has some tokens
 
 -- whether a unit is read does not hang on the number for a token that begins none
 chosen : (table : List (ℕ × Step (List Simple))) (y y′ : Why) (k p n : ℕ) (ts : List Token) (u : List Simple) → stepped (choose table (refuse y) k) p ts ≡ got u n → stepped (choose table (refuse y′) k) p ts ≡ got u n
@@ -138,33 +125,15 @@ chosen (x ∷ table) y y′ k p n ts u e = go (eqb k (x .0)) (chosen table y y�
     go true rest e = e
     go false rest e = rest e
 
--- the last statement of a unit awaits nothing of the next one
-unit-bytes : (takes : Bool) (p : ℕ) (xs : List Token) (u v : List Simple) → Item takes p xs u → partBytes takes (u ++ v) ≡ partBytes takes u + partBytes takes v
-unfolding mainBytes innerBytes
-unit-bytes false p xs u v h = inner-append u v
-unit-bytes true p xs u v (literal t e) = rw add-zero
-unit-bytes true p xs u v (opcode t e w) = rw w
-unit-bytes true p xs u v (push t w e h k f) = omega arith
-unit-bytes true p xs u v (labelCall t e) = rw add-zero
-unit-bytes true p xs u v (invocation t o e f c) = rw add-zero
-unit-bytes true p xs u v (constant l t r e f g) = rw add-zero
-unit-bytes true p xs u v (argumentCall l t r e f g) = rw add-zero
-unit-bytes true p xs u v (builtin t o e f c) = rw add-zero
+unit-shaped : (takes : Bool) (p : ℕ) (ts : List Token) (u : List Simple) (k : ℕ) {T : Why → Token → Type 0} → Holds T (Item takes p) (NoneOrOne (Item takes p)) p (item takes 5 p) ts (got u k) → 0 < k
+unit-shaped takes p ts u zero (well h) = item-some takes p [] u (h .follows)
+unit-shaped takes p ts u (suc k) (well h) = omega arith
 
--- a unit that was read: some tokens, and bytes that add up
-pub record UnitShape (takes : Bool) (u : List Simple) (k : ℕ) : Type 0 where
-  pub some : 0 < k
-  pub bytes : (v : List Simple) → partBytes takes (u ++ v) ≡ partBytes takes u + partBytes takes v
-
-shaped : (takes : Bool) (p : ℕ) (ts : List Token) (u : List Simple) (k : ℕ) {T : Why → Token → Type 0} → Holds T (Item takes p) (NoneOrOne (Item takes p)) p (item takes 5 p) ts (got u k) → UnitShape takes u k
-shaped takes p ts u zero (well h) = record { some = item-some takes p [] u (h .follows); bytes = λ v. unit-bytes takes p _ u v (h .follows) }
-shaped takes p ts u (suc k) (well h) = record { some = omega arith; bytes = λ v. unit-bytes takes p _ u v (h .follows) }
-
-pub unit-shape : (takes : Bool) (wrong p : ℕ) (ts : List Token) (u : List Simple) (k : ℕ) → item takes wrong p ts ≡ got u k → UnitShape takes u k
+unit-tokens : (takes : Bool) (wrong p : ℕ) (ts : List Token) (u : List Simple) (k : ℕ) → item takes wrong p ts ≡ got u k → 0 < k
 unfolding item look
-unit-shape takes wrong p ts u k e =
+unit-tokens takes wrong p ts u k e =
     let e′ : item takes 5 p ts ≡ got u k = chosen (itemTable takes p (tokenAt ts 0)) (plain wrong) (plain 5) (tokenAt ts 0 .kind) p k (drop 1 ts) u e in
-    shaped takes p ts u k (rw e′ at (item-holds base takes 5 (plain-number base 5 refl refl refl) p ts))
+    unit-shaped takes p ts u k (rw e′ at (item-holds base takes 5 (plain-number base 5 refl refl refl) p ts))
 
 -- ---- where items and labels end
 
@@ -192,73 +161,68 @@ module _ (text words kept : List ℕ) (p : ℕ) where
 
 -- items are left to read at s
 abbrev pub ItemsLeft : Bool → ℕ → ℕ → ℕ → ℕ → List Token → Tally → List ℕ → List ℕ → Items → List ℕ → List ℕ → Type 0
-ItemsLeft takes wrong i a size all s = SimpleParsed takes s i a size (flattened (items takes wrong (s .at) (drop (s .at) all)))
+ItemsLeft takes wrong i a size all s = SimpleParsed s i a size (flattened (items takes wrong (s .at) (drop (s .at) all)))
 
 module _ (takes : Bool) (wrong i a size : ℕ) (all : List Token) where
   -- a unit and what is left behind it
   unit-then : {s : Tally} {st ar st₁ ar₁ st₂ ar₂ : List ℕ} {r₁ r : Items} (u : List Simple) (k : ℕ) (rest : Res (List (List Simple)))
-      → UnitShape takes u k
-      → SimpleParsed takes s i a size (got u k) st ar r₁ st₁ ar₁
-      → SimpleParsed takes (tallied s k (length u) (length (argumentsOf u)) (partBytes takes u) (allMeasured u)) i a size (flattened rest) st₁ ar₁ r st₂ ar₂
-      → SimpleParsed takes s i a size (flattened (counted k (consed u rest))) st ar r st₂ ar₂
+      → SimpleParsed s i a size (got u k) st ar r₁ st₁ ar₁
+      → SimpleParsed (tallied s k (length u) (length (argumentsOf u))) i a size (flattened rest) st₁ ar₁ r st₂ ar₂
+      → SimpleParsed s i a size (flattened (counted k (consed u rest))) st ar r st₂ ar₂
   unfolding flatten
-  unit-then {s} u k (bad y w) shape v left = rw (left .is) (refused-parsed (simpleAnswer takes) simpleRecords simpleArguments i a y w refl refl refl refl)
-  unit-then {s} u k (got us k′) shape v left =
-      let first = parsed-piece (simpleAnswer takes) simpleRecords simpleArguments i a v refl in
-      let second = parsed-piece (simpleAnswer takes) simpleRecords simpleArguments i a left refl in
+  unit-then {s} u k (bad y w) v left = rw (left .is) (refused-parsed simpleAnswer simpleRecords simpleArguments i a y w refl refl refl refl)
+  unit-then {s} u k (got us k′) v left =
+      let first = parsed-piece simpleAnswer simpleRecords simpleArguments i a v refl in
+      let second = parsed-piece simpleAnswer simpleRecords simpleArguments i a left refl in
       let both = piece-then (first .1) (simple-count u (i + s .statements) (a + s .arguments)) (length-map (argumentsOf u) argumentRecord) (second .1) in
       rw (second .0)
-      (piece-parsed (simpleAnswer takes) simpleRecords simpleArguments i a (u ++ flatten us) both refl
-      (rw (length-append, arguments-append, length-append, shape .bytes (flatten us), measured-append))
+      (piece-parsed simpleAnswer simpleRecords simpleArguments i a (u ++ flatten us) both refl
+      (rw (length-append, arguments-append, length-append))
       (records-append u (flatten us) (i + s .statements) (a + s .arguments) ∙ rw (add-assoc i (s .statements) (length u), add-assoc a (s .arguments) (length (argumentsOf u))))
       (ap (map argumentRecord) (arguments-append u (flatten us)) ∙ map-append argumentRecord (argumentsOf u) (argumentsOf (flatten us))))
 
   -- what an item's promise says of the turn
   pub items-turn : {t next : Tally} {st ar st₁ ar₁ : List ℕ} → length all ≡ size → endsItems (tokenAt all (t .at)) ≡ false
-      → SimpleParsed takes t i a size (item takes wrong (t .at) (drop (t .at) all)) st ar (Done next) st₁ ar₁
+      → SimpleParsed t i a size (item takes wrong (t .at) (drop (t .at) all)) st ar (Done next) st₁ ar₁
       → Turn (ItemsLeft takes wrong i a size all) t next st ar st₁ ar₁
   unfolding items
   items-turn {t} {next} {st} {ar} {st₁} {ar₁} len stop v = go (item takes wrong (t .at) (drop (t .at) all)) refl
     where
       go : (x : Res (List Simple)) → item takes wrong (t .at) (drop (t .at) all) ≡ x → Turn (ItemsLeft takes wrong i a size all) t next st ar st₁ ar₁
-      go (bad y w) e = absurd (let f : Done next ≡ Refused (number y) (w + beyond y) = v .is ∙ ap (simpleAnswer takes t) e in let z : _≡_ {A = ℕ} 0 1 = cc in omega arith)
-      go (got u zero) e = absurd (let f = unit-shape takes wrong (t .at) (drop (t .at) all) u zero e .some in omega arith)
+      go (bad y w) e = absurd (let f : Done next ≡ Refused (number y) (w + beyond y) = v .is ∙ ap (simpleAnswer t) e in let z : _≡_ {A = ℕ} 0 1 = cc in omega arith)
+      go (got u zero) e = absurd (let f = unit-tokens takes wrong (t .at) (drop (t .at) all) u zero e in omega arith)
       go (got u (suc n)) e =
-          let v′ : SimpleParsed takes t i a size (got u (suc n)) st ar (Done next) st₁ ar₁ = rw e at v in
-          let first = parsed-piece (simpleAnswer takes) simpleRecords simpleArguments i a v′ refl in
-          let is : next ≡ tallied t (suc n) (length u) (length (argumentsOf u)) (partBytes takes u) (allMeasured u) = cc (first .0) in
+          let v′ : SimpleParsed t i a size (got u (suc n)) st ar (Done next) st₁ ar₁ = rw e at v in
+          let first = parsed-piece simpleAnswer simpleRecords simpleArguments i a v′ refl in
+          let is : next ≡ tallied t (suc n) (length u) (length (argumentsOf u)) = cc (first .0) in
           let whole = many-goes endsItems forget (λ s. item takes wrong) tt (t .at) all u n (omega (arith, first .1 .inside)) stop e in
           record {
             forward = rw is (omega arith);
-            step = λ r st′ ar′ left. rw whole (unit-then u (suc n) (many endsItems forget (λ s. item takes wrong) tt 0 (t .at + suc n) (drop (t .at + suc n) all)) (unit-shape takes wrong (t .at) (drop (t .at) all) u (suc n) e) v′ (rw is at left));
+            step = λ r st′ ar′ left. rw whole (unit-then u (suc n) (many endsItems forget (λ s. item takes wrong) tt 0 (t .at + suc n) (drop (t .at + suc n) all)) v′ (rw is at left));
           }
 
   -- the loop ends
   pub items-end : {t : Tally} {st ar : List ℕ} → length all ≡ size → t .at < size → endsItems (tokenAt all (t .at)) ≡ true
-      → SimpleParsed takes t i a size (flattened (items takes wrong (t .at) (drop (t .at) all))) st ar (Done t) st ar
-  unfolding items flatten simpleRecords argumentsOf allMeasured mainBytes innerBytes
+      → SimpleParsed t i a size (flattened (items takes wrong (t .at) (drop (t .at) all))) st ar (Done t) st ar
+  unfolding items flatten simpleRecords argumentsOf
   items-end {t} {st} {ar} len h stop =
-      piece-parsed (simpleAnswer takes) simpleRecords simpleArguments i a [] (no-piece t size st ar (omega arith))
+      piece-parsed simpleAnswer simpleRecords simpleArguments i a [] (no-piece t size st ar (omega arith))
       (ap flattened (many-ends endsItems forget (λ s. item takes wrong) tt (t .at) all (omega arith) stop))
-      (ap (λ b. Done (tallied t 0 0 0 b true)) (none takes)) refl refl
-    where
-      none : (takes : Bool) → partBytes takes [] ≡ 0
-      none true = refl
-      none false = refl
+      refl refl refl
 
   -- an item is refused
   pub items-refused : {t : Tally} {c q : ℕ} {st ar st₁ ar₁ : List ℕ} → length all ≡ size → endsItems (tokenAt all (t .at)) ≡ false
-      → SimpleParsed takes t i a size (item takes wrong (t .at) (drop (t .at) all)) st ar (Refused c q) st₁ ar₁
-      → SimpleParsed takes t i a size (flattened (items takes wrong (t .at) (drop (t .at) all))) st ar (Refused c q) st₁ ar₁
+      → SimpleParsed t i a size (item takes wrong (t .at) (drop (t .at) all)) st ar (Refused c q) st₁ ar₁
+      → SimpleParsed t i a size (flattened (items takes wrong (t .at) (drop (t .at) all))) st ar (Refused c q) st₁ ar₁
   unfolding items
   items-refused {t} {c} {q} {st} {ar} {st₁} {ar₁} len stop v = go (item takes wrong (t .at) (drop (t .at) all)) refl
     where
-      go : (x : Res (List Simple)) → item takes wrong (t .at) (drop (t .at) all) ≡ x → SimpleParsed takes t i a size (flattened (many endsItems forget (λ s. item takes wrong) tt 0 (t .at) (drop (t .at) all))) st ar (Refused c q) st₁ ar₁
-      go (got u k) e = absurd (let f : Refused c q ≡ simpleAnswer takes t (got u k) = v .is ∙ ap (simpleAnswer takes t) e in let z : _≡_ {A = ℕ} 0 1 = cc in omega arith)
+      go : (x : Res (List Simple)) → item takes wrong (t .at) (drop (t .at) all) ≡ x → SimpleParsed t i a size (flattened (many endsItems forget (λ s. item takes wrong) tt 0 (t .at) (drop (t .at) all))) st ar (Refused c q) st₁ ar₁
+      go (got u k) e = absurd (let f : Refused c q ≡ simpleAnswer t (got u k) = v .is ∙ ap (simpleAnswer t) e in let z : _≡_ {A = ℕ} 0 1 = cc in omega arith)
       go (bad y w) e =
-          let f : Refused c q ≡ Refused (number y) (w + beyond y) = v .is ∙ ap (simpleAnswer takes t) e in
+          let f : Refused c q ≡ Refused (number y) (w + beyond y) = v .is ∙ ap (simpleAnswer t) e in
           let whole = many-bad endsItems forget (λ s. item takes wrong) tt (t .at) all y w stop e in
-          refused-parsed (simpleAnswer takes) simpleRecords simpleArguments i a y w (ap flattened whole) refl (cc) (cc)
+          refused-parsed simpleAnswer simpleRecords simpleArguments i a y w (ap flattened whole) refl (cc) (cc)
 
 -- ---- a label
 
@@ -299,39 +263,38 @@ module _ (i a size : ℕ) (all : List Token) (s : Tally) where
       ∙ ap oneMore (expect-taken Colon (plain 1) (λ c. seq (items false 6) (λ is q ts. got (record { first = s .at; end = q; token = tokenAt all (s .at); inner = flatten is }) 0)) (s .at + 1) all f)
       ∙ rw (two, g)
 
-  label-piece : {n l m b : ℕ} {q : Bool} {rs qs : List (List ℕ)} {st ar st₁ ar₁ st₂ : List ℕ} {t : Tally}
-      → Piece (skipped s 2 1 1) size n l m b q rs qs st ar t st₁ ar₁
+  label-piece : {n l m : ℕ} {rs qs : List (List ℕ)} {st ar st₁ ar₁ st₂ : List ℕ} {t : Tally}
+      → Piece (skipped s 2 1) size n l m rs qs st ar t st₁ ar₁
       → st₂ ≡ put 8 st₁ (s .statements) (labelWords s i a t)
-      → Piece s size (2 + n) (suc l) m (suc b) q (labelWords s i a t ∷ rs) qs st ar t st₂ ar₁
+      → Piece s size (2 + n) (suc l) m (labelWords s i a t ∷ rs) qs st ar t st₂ ar₁
   unfolding putAll
-  label-piece {n} {l} {m} {b} {q} {rs} {qs} {st} {ar} {st₁} {ar₁} {st₂} {t} v w =
+  label-piece {n} {l} {m} {rs} {qs} {st} {ar} {st₁} {ar₁} {st₂} {t} v w =
       record {
-        is = v .is ∙ tally-same (omega arith) (omega arith) refl (omega arith) refl;
+        is = v .is ∙ tally-same (omega arith) (omega arith) refl;
         statements = w ∙ ap (λ (x : List ℕ). put 8 x (s .statements) (labelWords s i a t)) (v .statements) ∙ put-late 8 rs st (labelWords s i a t) (s .statements) (s .statements + 1) (omega arith) (omega arith);
         arguments = v .arguments;
         inside = omega (arith, v .inside);
         fewStatements = omega (arith, v .fewStatements);
         fewArguments = omega (arith, v .fewArguments);
-        fewBytes = omega (arith, v .fewBytes);
       }
 
   pub label-parsed : {st ar st₁ ar₁ st₂ : List ℕ} {inner r : Items}
       → tokenAt all (s .at) .kind ≡ Label
       → tokenAt all (s .at + 1) .kind ≡ Colon
-      → ItemsLeft false 6 i a size all (skipped s 2 1 1) st ar inner st₁ ar₁
+      → ItemsLeft false 6 i a size all (skipped s 2 1) st ar inner st₁ ar₁
       → LabelPut st₁ s i a inner r st₂
       → GroupsParsed s i a size (oneGroup (labelGroup base [] (s .at) (drop (s .at) all))) st ar r st₂ ar₁
-  unfolding groupRecords groupCount groupArguments groupBytes groupsMeasured
+  unfolding groupRecords groupCount groupArguments
   label-parsed {st} {ar} {st₁} {ar₁} {st₂} {inner} {r} e f v w = go (items false 6 (s .at + 2) (drop (s .at + 2) all)) refl
     where
       go : (x : Res (List (List Simple))) → items false 6 (s .at + 2) (drop (s .at + 2) all) ≡ x
           → GroupsParsed s i a size (oneGroup (labelGroup base [] (s .at) (drop (s .at) all))) st ar r st₂ ar₁
       go (bad y q) g =
-          let is : inner ≡ Refused (number y) (q + beyond y) = v .is ∙ ap (λ x. simpleAnswer false (skipped s 2 1 1) (flattened x)) g in
+          let is : inner ≡ Refused (number y) (q + beyond y) = v .is ∙ ap (λ x. simpleAnswer (skipped s 2 1) (flattened x)) g in
           rw (w .is, is) (refused-parsed groupsAnswer groupRecords groupsArguments i a y q (ap oneGroup (label-read (bad y q) e f g)) refl refl refl)
       go (got is n) g =
-          let v′ : SimpleParsed false (skipped s 2 1 1) i a size (got (flatten is) n) st ar inner st₁ ar₁ = rw g at v in
-          let first = parsed-piece (simpleAnswer false) simpleRecords simpleArguments i a v′ refl in
+          let v′ : SimpleParsed (skipped s 2 1) i a size (got (flatten is) n) st ar inner st₁ ar₁ = rw g at v in
+          let first = parsed-piece simpleAnswer simpleRecords simpleArguments i a v′ refl in
           let w′ = rw (first .0) at w in
           let own : i + (s .statements + 1) ≡ suc (i + s .statements) = omega arith in
           let count : s .statements + 1 + length (flatten is) - (s .statements + 1) ≡ length (flatten is) = omega arith in
@@ -340,19 +303,19 @@ module _ (i a size : ℕ) (all : List Token) (s : Tally) where
           rw (w′ .is)
           (piece-parsed groupsAnswer groupRecords groupsArguments i a (theGroup n is ∷ []) (label-piece (first .1) (w′ .table))
           (ap oneGroup (label-read (got is n) e f g) ∙ rw (none, two))
-          (ap Done (tally-same refl (ap (λ k. s .statements + k) (add-zero (suc (length (flatten is))))) (ap (λ k. s .arguments + length k) (append-nil (argumentsOf (flatten is)))) (ap (λ k. s .bytes + k) (add-zero (suc (innerBytes (flatten is))))) (ap (λ k. s .plain && k) (and-true (allMeasured (flatten is))))))
+          (ap Done (tally-same refl (ap (λ k. s .statements + k) (add-zero (suc (length (flatten is))))) (ap (λ k. s .arguments + length k) (append-nil (argumentsOf (flatten is))))))
           (rw (append-nil, own, count, add-one))
           (ap (map argumentRecord) (append-nil (argumentsOf (flatten is)))))
 
   -- what the label's writer needs of the items
-  pub label-inside : {words kept st ar st₁ ar₁ : List ℕ} {inner : Items} → Counting words kept s i a → length kept ≡ size → ItemsLeft false 6 i a size all (skipped s 2 1 1) st ar inner st₁ ar₁ → LabelInside s inner
-  label-inside {kept} {st} {ar} {st₁} {ar₁} {inner} g len v = go (items false 6 (s .at + 2) (drop (s .at + 2) all)) refl
+  pub label-inside : {words kept st ar st₁ ar₁ : List ℕ} {inner : Items} → Counting words kept s i a → length kept ≡ size → ItemsLeft false 6 i a size all (skipped s 2 1) st ar inner st₁ ar₁ → LabelInside s inner
+  label-inside {words} {kept} {st} {ar} {st₁} {ar₁} {inner} g len v = go (items false 6 (s .at + 2) (drop (s .at + 2) all)) refl
     where
       go : (x : Res (List (List Simple))) → items false 6 (s .at + 2) (drop (s .at + 2) all) ≡ x → LabelInside s inner
-      go (bad y q) e = let is : inner ≡ Refused (number y) (q + beyond y) = v .is ∙ ap (λ x. simpleAnswer false (skipped s 2 1 1) (flattened x)) e in rw is tt
+      go (bad y q) e = let is : inner ≡ Refused (number y) (q + beyond y) = v .is ∙ ap (λ x. simpleAnswer (skipped s 2 1) (flattened x)) e in rw is tt
       go (got us n) e =
-          let v′ : SimpleParsed false (skipped s 2 1 1) i a size (got (flatten us) n) st ar inner st₁ ar₁ = rw e at v in
-          let first = parsed-piece (simpleAnswer false) simpleRecords simpleArguments i a v′ refl in
+          let v′ : SimpleParsed (skipped s 2 1) i a size (got (flatten us) n) st ar inner st₁ ar₁ = rw e at v in
+          let first = parsed-piece simpleAnswer simpleRecords simpleArguments i a v′ refl in
           rw (first .0) (omega arith, omega (arith, first .1 .inside, first .1 .fewStatements, g .few, g .statements), omega (arith, first .1 .inside, g .few))
 
 -- ---- labels one behind the other
@@ -396,9 +359,9 @@ GroupsLeft i a size all s = GroupsParsed s i a size (groups base (s .at) (drop (
 module _ (i a size : ℕ) (all : List Token) where
   label-then : {s : Tally} {st ar st₁ ar₁ st₂ ar₂ : List ℕ} {r₁ r : Items} (g : Group) (k : ℕ) (rest : Res (List Group))
       → GroupsParsed s i a size (got (g ∷ []) k) st ar r₁ st₁ ar₁
-      → GroupsParsed (tallied s k (groupCount (g ∷ [])) (length (groupArguments (g ∷ []))) (groupBytes (g ∷ [])) (groupsMeasured (g ∷ []))) i a size rest st₁ ar₁ r st₂ ar₂
+      → GroupsParsed (tallied s k (groupCount (g ∷ [])) (length (groupArguments (g ∷ [])))) i a size rest st₁ ar₁ r st₂ ar₂
       → GroupsParsed s i a size (counted k (consed g rest)) st ar r st₂ ar₂
-  unfolding groupRecords groupCount groupArguments groupBytes groupsMeasured
+  unfolding groupRecords groupCount groupArguments
   label-then {s} g k (bad y w) v left = rw (left .is) (refused-parsed groupsAnswer groupRecords groupsArguments i a y w refl refl refl refl)
   label-then {s} g k (got gs k′) v left =
       let first = parsed-piece groupsAnswer groupRecords groupsArguments i a v refl in
@@ -406,11 +369,10 @@ module _ (i a size : ℕ) (all : List Token) where
       let both = piece-then (first .1) (groups-count (g ∷ []) (i + s .statements) (a + s .arguments)) (length-map (groupArguments (g ∷ [])) argumentRecord) (second .1) in
       let n : suc (length (g .inner)) + 0 ≡ suc (length (g .inner)) = add-zero (suc (length (g .inner))) in
       let args : argumentsOf (g .inner) ++ [] ≡ argumentsOf (g .inner) = append-nil (argumentsOf (g .inner)) in
-      let bytes : suc (innerBytes (g .inner)) + 0 ≡ suc (innerBytes (g .inner)) = add-zero (suc (innerBytes (g .inner))) in
       let own : suc (i + s .statements) + length (g .inner) ≡ i + (s .statements + suc (length (g .inner))) = omega arith in
       rw (second .0)
       (piece-parsed groupsAnswer groupRecords groupsArguments i a (g ∷ gs) both refl
-      (rw (args, n, bytes, and-true, length-append))
+      (rw (args, n, length-append))
       (rw (n, args, own, append-nil (simpleRecords (suc (i + s .statements)) (a + s .arguments) (g .inner)), add-assoc a (s .arguments) (length (argumentsOf (g .inner)))))
       (rw (args, map-append)))
 
@@ -427,7 +389,7 @@ module _ (i a size : ℕ) (all : List Token) where
       go (got g (suc n)) e =
           let v′ : GroupsParsed t i a size (got (g ∷ []) (suc n)) st ar (Done next) st₁ ar₁ = rw e at v in
           let first = parsed-piece groupsAnswer groupRecords groupsArguments i a v′ refl in
-          let is : next ≡ tallied t (suc n) (groupCount (g ∷ [])) (length (groupArguments (g ∷ []))) (groupBytes (g ∷ [])) (groupsMeasured (g ∷ [])) = cc (first .0) in
+          let is : next ≡ tallied t (suc n) (groupCount (g ∷ [])) (length (groupArguments (g ∷ []))) = cc (first .0) in
           let whole = many-goes endsGroups remember (labelGroup base) [] (t .at) all g n (omega (arith, first .1 .inside)) stop e in
           let aside = names-aside (drop (t .at + suc n) all) (remember [] g) [] 0 (t .at + suc n) in
           record {
@@ -436,7 +398,7 @@ module _ (i a size : ℕ) (all : List Token) where
           }
 
   pub groups-end : {t : Tally} {st ar : List ℕ} → length all ≡ size → t .at < size → endsGroups (tokenAt all (t .at)) ≡ true → GroupsLeft i a size all t st ar (Done t) st ar
-  unfolding groups groupRecords groupCount groupArguments groupBytes groupsMeasured
+  unfolding groups groupRecords groupCount groupArguments
   groups-end {t} {st} {ar} len h stop =
       piece-parsed groupsAnswer groupRecords groupsArguments i a [] (no-piece t size st ar (omega arith))
       (many-ends endsGroups remember (labelGroup base) [] (t .at) all (omega arith) stop)
@@ -458,30 +420,29 @@ module _ (i a size : ℕ) (all : List Token) where
 -- ---- the body
 
 -- what was read between two braces, with them
-braced : {s t : Tally} {size k n m b : ℕ} {q : Bool} {rs qs : List (List ℕ)} {st ar st′ ar′ : List ℕ}
-    → Piece (skipped s 1 0 0) size k n m b q rs qs st ar t st′ ar′
+braced : {s t : Tally} {size k n m : ℕ} {rs qs : List (List ℕ)} {st ar st′ ar′ : List ℕ}
+    → Piece (skipped s 1 0) size k n m rs qs st ar t st′ ar′
     → t .at < size
-    → Piece s size (suc (k + 1)) n m b q rs qs st ar (skipped t 1 0 0) st′ ar′
+    → Piece s size (suc (k + 1)) n m rs qs st ar (skipped t 1 0) st′ ar′
 braced {s} {t} {st = st} v h =
     let at : t .at ≡ s .at + 1 + _ = ap (λ (x : Tally). x .at) (v .is) in
     record {
-      is = ap (λ (x : Tally). skipped x 1 0 0) (v .is) ∙ tally-same (omega arith) (omega arith) refl (omega arith) refl;
+      is = ap (λ (x : Tally). skipped x 1 0) (v .is) ∙ tally-same (omega arith) (omega arith) refl;
       statements = v .statements ∙ rw (add-zero (s .statements));
       arguments = v .arguments;
       inside = omega (arith, h);
       fewStatements = omega (arith, v .fewStatements);
       fewArguments = omega (arith, v .fewArguments);
-      fewBytes = omega (arith, v .fewBytes);
     }
 
 -- what the reader of the brace needs
 pub closed-inside : {words kept : List ℕ} {s : Tally} {i a : ℕ} (r : Items) → Counting words kept s i a → TallyWithin s (length kept) r → ClosedInside r
-closed-inside {words} {kept} {i = i} {a = a} (Done t) g h = let n : Counting words kept t i a = counting-next g h in (omega arith, omega arith, omega arith)
+closed-inside {words} {kept} {i = i} {a = a} (Done t) g h = let n : Counting words kept t i a = counting-next g h in (omega arith, omega arith)
 closed-inside (Refused c q) g h = tt
 
 -- the closing brace behind what was read
 abbrev pub shut : List Token → Items → Items
-shut all (Done t) = cond (eqb (tokenAt all (t .at) .kind) CloseBrace) (Done (skipped t 1 0 0)) (Refused 5 (t .at))
+shut all (Done t) = cond (eqb (tokenAt all (t .at) .kind) CloseBrace) (Done (skipped t 1 0)) (Refused 5 (t .at))
 shut all (Refused c q) = Refused c q
 
 module _ (i a size : ℕ) (all : List Token) (s : Tally) where
@@ -500,14 +461,14 @@ module _ (i a size : ℕ) (all : List Token) (s : Tally) where
 
   -- an item of the macro part is refused
   pub main-refused : {st ar st₁ ar₁ : List ℕ} {c q : ℕ} → tokenAt all (s .at) .kind ≡ OpenBrace
-      → ItemsLeft true 5 i a size all (skipped s 1 0 0) st ar (Refused c q) st₁ ar₁
+      → ItemsLeft true 5 i a size all (skipped s 1 0) st ar (Refused c q) st₁ ar₁
       → BodyParsed s i a size (bodyFrom base (s .at) (drop (s .at) all)) st ar (Refused c q) st₁ ar₁
   main-refused {st} {ar} {st₁} {ar₁} {c} {q} e v = go (items true 5 (s .at + 1) (drop (s .at + 1) all)) refl
     where
       go : (x : Res (List (List Simple))) → items true 5 (s .at + 1) (drop (s .at + 1) all) ≡ x → BodyParsed s i a size (bodyFrom base (s .at) (drop (s .at) all)) st ar (Refused c q) st₁ ar₁
-      go (got us n) f = absurd (let g : Refused c q ≡ simpleAnswer true (skipped s 1 0 0) (got (flatten us) n) = v .is ∙ ap (λ x. simpleAnswer true (skipped s 1 0 0) (flattened x)) f in let z : _≡_ {A = ℕ} 0 1 = cc in omega arith)
+      go (got us n) f = absurd (let g : Refused c q ≡ simpleAnswer (skipped s 1 0) (got (flatten us) n) = v .is ∙ ap (λ x. simpleAnswer (skipped s 1 0) (flattened x)) f in let z : _≡_ {A = ℕ} 0 1 = cc in omega arith)
       go (bad y w) f =
-          let g : Refused c q ≡ Refused (number y) (w + beyond y) = v .is ∙ ap (λ x. simpleAnswer true (skipped s 1 0 0) (flattened x)) f in
+          let g : Refused c q ≡ Refused (number y) (w + beyond y) = v .is ∙ ap (λ x. simpleAnswer (skipped s 1 0) (flattened x)) f in
           refused-parsed bodyAnswer statementRecords argumentRecords i a y w (opened e ∙ ap oneMore (seq-bad (items true 5) rest (s .at + 1) (drop (s .at + 1) all) y w f)) refl (cc) (cc)
 
   -- the macro part, the labels and the closing brace
@@ -515,19 +476,19 @@ module _ (i a size : ℕ) (all : List Token) (s : Tally) where
       → ((q : ℕ) → 0 < tokenAt all q .kind → q < size)
       → tokenAt all (s .at) .kind ≡ OpenBrace
       → items true 5 (s .at + 1) (drop (s .at + 1) all) ≡ got us n
-      → SimpleParsed true (skipped s 1 0 0) i a size (got (flatten us) n) st ar (Done t) st₁ ar₁
+      → SimpleParsed (skipped s 1 0) i a size (got (flatten us) n) st ar (Done t) st₁ ar₁
       → GroupsLeft i a size all t st₁ ar₁ r st₂ ar₂
       → BodyParsed s i a size (bodyFrom base (s .at) (drop (s .at) all)) st ar (shut all r) st₂ ar₂
   unfolding statementRecords argumentRecords statementCount argumentCount allArguments
   finished {st} {ar} {st₁} {ar₁} {st₂} {ar₂} {t} {r} us n inside e f v w = go (groups base (t .at) (drop (t .at) all)) refl
     where
-      first : (Done t ≡ Done (tallied (skipped s 1 0 0) n (length (flatten us)) (length (argumentsOf (flatten us))) (mainBytes 0 (flatten us)) (allMeasured (flatten us)))) × Piece (skipped s 1 0 0) size n (length (flatten us)) (length (argumentsOf (flatten us))) (mainBytes 0 (flatten us)) (allMeasured (flatten us)) (simpleRecords (i + (s .statements + 0)) (a + s .arguments) (flatten us)) (simpleArguments (flatten us)) st ar (tallied (skipped s 1 0 0) n (length (flatten us)) (length (argumentsOf (flatten us))) (mainBytes 0 (flatten us)) (allMeasured (flatten us))) st₁ ar₁
-      first = parsed-piece (simpleAnswer true) simpleRecords simpleArguments i a v refl
+      first : (Done t ≡ Done (tallied (skipped s 1 0) n (length (flatten us)) (length (argumentsOf (flatten us))))) × Piece (skipped s 1 0) size n (length (flatten us)) (length (argumentsOf (flatten us))) (simpleRecords (i + (s .statements + 0)) (a + s .arguments) (flatten us)) (simpleArguments (flatten us)) st ar (tallied (skipped s 1 0) n (length (flatten us)) (length (argumentsOf (flatten us)))) st₁ ar₁
+      first = parsed-piece simpleAnswer simpleRecords simpleArguments i a v refl
 
-      is : t ≡ tallied (skipped s 1 0 0) n (length (flatten us)) (length (argumentsOf (flatten us))) (mainBytes 0 (flatten us)) (allMeasured (flatten us))
+      is : t ≡ tallied (skipped s 1 0) n (length (flatten us)) (length (argumentsOf (flatten us)))
       is = cc (first .0)
 
-      main-piece : Piece (skipped s 1 0 0) size n (length (flatten us)) (length (argumentsOf (flatten us))) (mainBytes 0 (flatten us)) (allMeasured (flatten us)) (simpleRecords (i + (s .statements + 0)) (a + s .arguments) (flatten us)) (simpleArguments (flatten us)) st ar t st₁ ar₁
+      main-piece : Piece (skipped s 1 0) size n (length (flatten us)) (length (argumentsOf (flatten us))) (simpleRecords (i + (s .statements + 0)) (a + s .arguments) (flatten us)) (simpleArguments (flatten us)) st ar t st₁ ar₁
       main-piece =
           record {
             is = is;
@@ -536,7 +497,6 @@ module _ (i a size : ℕ) (all : List Token) (s : Tally) where
             inside = first .1 .inside;
             fewStatements = first .1 .fewStatements;
             fewArguments = first .1 .fewArguments;
-            fewBytes = first .1 .fewBytes;
           }
 
       at : t .at ≡ s .at + 1 + n
@@ -555,14 +515,14 @@ module _ (i a size : ℕ) (all : List Token) (s : Tally) where
           rw (second .0) (brace (eqb (tokenAt all (t .at + k) .kind) CloseBrace) refl (second .1))
         where
           u : Tally
-          u = tallied t k (groupCount gs) (length (groupArguments gs)) (groupBytes gs) (groupsMeasured gs)
+          u = tallied t k (groupCount gs) (length (groupArguments gs))
 
           read-to : bodyFrom base (s .at) (drop (s .at) all) ≡ oneMore (counted n (counted k (expect CloseBrace (plain 5) (λ c q ts. got (record { main = flatten us; groups = gs }) 0) (t .at + k) (drop (t .at + k) all))))
           read-to = behind ∙ ap (λ x. oneMore (counted n x)) (seq-got (groups base) (λ gs. expect CloseBrace (plain 5) (λ c q ts. got (record { main = flatten us; groups = gs }) 0)) (t .at) k all gs g)
 
           brace : (b : Bool) → eqb (tokenAt all (t .at + k) .kind) CloseBrace ≡ b
-              → Piece t size k (groupCount gs) (length (groupArguments gs)) (groupBytes gs) (groupsMeasured gs) (groupRecords (i + t .statements) (a + t .arguments) gs) (groupsArguments gs) st₁ ar₁ u st₂ ar₂
-              → BodyParsed s i a size (bodyFrom base (s .at) (drop (s .at) all)) st ar (cond b (Done (skipped u 1 0 0)) (Refused 5 (t .at + k))) st₂ ar₂
+              → Piece t size k (groupCount gs) (length (groupArguments gs)) (groupRecords (i + t .statements) (a + t .arguments) gs) (groupsArguments gs) st₁ ar₁ u st₂ ar₂
+              → BodyParsed s i a size (bodyFrom base (s .at) (drop (s .at) all)) st ar (cond b (Done (skipped u 1 0)) (Refused 5 (t .at + k))) st₂ ar₂
           brace false h p =
               refused-parsed bodyAnswer statementRecords argumentRecords i a (plain 5) (t .at + k)
               (read-to ∙ ap (λ x. oneMore (counted n (counted k x))) (expect-refused CloseBrace (plain 5) (λ c q ts. got (record { main = flatten us; groups = gs }) 0) (t .at + k) all (eqb-false _ _ h)))
@@ -581,13 +541,13 @@ module _ (i a size : ℕ) (all : List Token) (s : Tally) where
   pub body-parsed : {st ar st₁ ar₁ st₂ ar₂ : List ℕ} {t : Tally} {r : Items}
       → ((q : ℕ) → 0 < tokenAt all q .kind → q < size)
       → tokenAt all (s .at) .kind ≡ OpenBrace
-      → ItemsLeft true 5 i a size all (skipped s 1 0 0) st ar (Done t) st₁ ar₁
+      → ItemsLeft true 5 i a size all (skipped s 1 0) st ar (Done t) st₁ ar₁
       → GroupsLeft i a size all t st₁ ar₁ r st₂ ar₂
       → BodyParsed s i a size (bodyFrom base (s .at) (drop (s .at) all)) st ar (shut all r) st₂ ar₂
   body-parsed {st} {ar} {st₁} {ar₁} {st₂} {ar₂} {t} {r} inside e v w = go (items true 5 (s .at + 1) (drop (s .at + 1) all)) refl
     where
       go : (x : Res (List (List Simple))) → items true 5 (s .at + 1) (drop (s .at + 1) all) ≡ x → BodyParsed s i a size (bodyFrom base (s .at) (drop (s .at) all)) st ar (shut all r) st₂ ar₂
-      go (bad y q) f = absurd (let g : Done t ≡ Refused (number y) (q + beyond y) = v .is ∙ ap (λ x. simpleAnswer true (skipped s 1 0 0) (flattened x)) f in let z : _≡_ {A = ℕ} 0 1 = cc in omega arith)
+      go (bad y q) f = absurd (let g : Done t ≡ Refused (number y) (q + beyond y) = v .is ∙ ap (λ x. simpleAnswer (skipped s 1 0) (flattened x)) f in let z : _≡_ {A = ℕ} 0 1 = cc in omega arith)
       go (got us n) f = finished us n inside e f (rw f at v) w
 
 -- as the code looks for it

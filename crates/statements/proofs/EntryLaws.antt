@@ -3,7 +3,7 @@ use Prim.Native.Nat.{ℕ, _+_, _-_, _/_, _≤_}
 use native.Mathlib.Nat.{zero-add, sub-zero}
 use native.Mathlib.Omega.{arith}
 use mathlib.Core.Path.{_≡_, refl, sym, ap, _∙_}
-use mathlib.Core.Bool.{Bool, true, false, cond, _&&_}
+use mathlib.Core.Bool.{Bool, true, false, cond}
 use mathlib.Core.List.{List, [], _∷_, _++_, flatten}
 use borrow.Author.Tests.{ltb-false}
 use lib.ListN.{length, getD, take, drop, replicate, length-append}
@@ -21,10 +21,11 @@ use Rattle.tokens.proofs.TableLaws.{cleared-none, Wide, records-then-zeros}
 use Rattle.grammar.specs.Reading.{Reading}
 use Rattle.grammar.specs.Rules.{base}
 use Rattle.grammar.specs.Result.{Res, got, bad, number, beyond}
-use Rattle.grammar.specs.Reader.{bodyFrom, bodyAt}
+use Rattle.grammar.specs.Reader.{bodyFrom, answer, bodyAt}
 use Rattle.grammar.specs.Ranges.{All}
 use Rattle.grammar.specs.Records.{statementRecords, argumentRecords, statementCount, argumentCount}
-use Rattle.grammar.specs.PlainLength.{mainBytes, groupBytes, allMeasured, groupsMeasured, plainLength}
+use Rattle.grammar.specs.PlainLength.{plainLength}
+use Rattle.grammar.proofs.Demand.{demand-3}
 use Rattle.grammar.proofs.Recorded.{as-many, as-wide}
 use Rattle.statements.specs.declared.item.Tally.{Tally}
 use Rattle.statements.specs.declared.item.Items.{Items}
@@ -33,7 +34,9 @@ use Rattle.statements.specs.declared.entry.Body.{Body}
 use Rattle.statements.specs.declared.entry.Body.the-variants.{Refused, StatementsTooSmall, ArgumentsTooSmall, Read}
 use Rattle.statements.specs.Answers.{Place, BodyParsed}
 use Rattle.statements.specs.Call.{values, settled, afterDoor, recordsOf, filled, tableAfter, readingAt, BodyCall}
+use Rattle.statements.specs.Length.{lengthFrom}
 use Rattle.statements.specs.Settled.{settledItems, Settled, BodyRead}
+use Rattle.statements.proofs.LengthLaws.{length-is}
 
 -- ---- the kept list
 
@@ -65,14 +68,14 @@ none-left w t u same = cleared-none w u ∙ ap (λ (n : ℕ). replicate n 0) (sa
 -- ---- the answer
 
 abbrev startTally : ℕ → Tally
-startTally start = record { at = start; statements = 0; arguments = 0; bytes = 0; plain = true }
+startTally start = record { at = start; statements = 0; arguments = 0 }
 
 module _ (st ar : List ℕ) (rd : Reading) (cursor : ℕ) where
   abbrev endTally : Tally
-  endTally = record { at = cursor; statements = statementCount rd; arguments = argumentCount rd; bytes = mainBytes 0 (rd .main) + groupBytes (rd .groups); plain = allMeasured (rd .main) && groupsMeasured (rd .groups) }
+  endTally = record { at = cursor; statements = statementCount rd; arguments = argumentCount rd }
 
-  same-answer : settledItems (items.Done endTally) (length st) (length ar) ≡ settled rd cursor (length st) (length ar)
-  unfolding settled plainLength
+  same-answer : settledItems (items.Done endTally) (plainLength rd) (length st) (length ar) ≡ settled rd cursor (length st) (length ar)
+  unfolding settled
   same-answer = refl
 
   -- the tables that the settling leaves by the answer r are those that r promises
@@ -102,7 +105,7 @@ pub body-read : (text words kept : List ℕ) (start : ℕ) (st ar : List ℕ) {s
     → BodyParsed (startTally start) 0 0 (length kept) (bodyFrom base start (drop start (view text words kept))) st ar x st₁ ar₁
     → length st₁ ≡ length st
     → length ar₁ ≡ length ar
-    → Settled x st₁ ar₁ r st₂ ar₂
+    → Settled x (lengthFrom (view text words kept) start) st₁ ar₁ r st₂ ar₂
     → BodyRead text words kept start st ar r st₂ ar₂
 unfolding bodyAt
 body-read text words kept start st ar {st₁} {ar₁} {st₂} {ar₂} {x} {r} v ls la w = go (bodyFrom base start (drop start (view text words kept))) refl
@@ -120,8 +123,10 @@ body-read text words kept start st ar {st₁} {ar₁} {st₂} {ar₂} {x} {r} v 
     go (got rd k) e =
         let v′ = rw e at v in
         let w′ = rw (v′ .is) at w in
+        let long : lengthFrom (view text words kept) start ≡ plainLength rd =
+        length-is (view text words kept) start k rd (demand-3 base (view text words kept) start k rd .0 (ap answer e)) in
         let is : r ≡ settled rd (start + k) (length st) (length ar) =
-        w′ .answer ∙ rw (ls, la, zero-add (statementCount rd), zero-add (argumentCount rd), zero-add (mainBytes 0 (rd .main) + groupBytes (rd .groups))) (same-answer st ar rd (start + k)) in
+        w′ .answer ∙ rw (ls, la, long, zero-add (statementCount rd), zero-add (argumentCount rd)) (same-answer st ar rd (start + k)) in
         let tables = both-tables st ar rd (start + k) (v′ .statementTable) (v′ .argumentTable) ls la in
         record {
           answer = is ∙ rw e;

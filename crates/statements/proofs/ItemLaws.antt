@@ -1,29 +1,25 @@
 -- What stands at a place, as the reader of one item finds it. Assumes nothing.
-use Prim.Native.Nat.{ℕ, suc, _+_, _≤_, _<_}
+use Prim.Native.Nat.{ℕ, suc, _+_, _<_}
 use native.Mathlib.Nat.{add-zero}
 use native.Mathlib.Numerals.{add-one}
 use native.Mathlib.Omega.{arith}
 use mathlib.Core.Path.{_≡_, refl, sym, ap, _∙_}
-use mathlib.Core.Bool.{Bool, true, false, cond, not, _&&_, and-eq-true-iff, true≢false}
+use mathlib.Core.Bool.{Bool, true, false, cond, not, _&&_, true≢false}
 use mathlib.Core.List.{List, [], _∷_}
-use borrow.Author.Tests.{not-true, not-false, eqb-true, eq-eqb, ne-eqb, leb-true}
-use lib.Dec.{eqb, leb}
+use borrow.Author.Tests.{not-true, not-false, eqb-true, eq-eqb, ne-eqb}
+use lib.Dec.{eqb}
 use lib.ListN.{length, drop}
 use Rattle.tokens.specs.Kind.{OpenParen, OpenBracket, CloseBracket, LeftAngle, RightAngle, Ident, Literal, Opcode, BuiltinFunction}
 use Rattle.tokens.specs.Token.{Token, tokenAt, view, kindAt}
-use Rattle.tokens.specs.Push.{isValuePush, pushSize, fits}
-use Rattle.tokens.specs.Literal.{literalValue, significant}
+use Rattle.tokens.specs.Push.{isValuePush, fits}
 use Rattle.tokens.proofs.ViewLaws.{view-kind}
-use Rattle.tokens.proofs.Value.{significant-between}
 use Rattle.statements.specs.declared.item.Tally.{Tally}
 use Rattle.grammar.specs.Reading.{Simple, Sort, Argument, aLiteral, anOpcode, aLabelCall, anInvocation, aConstant, anArgumentCall, aBuiltin, single, enclosed, called}
 use Rattle.grammar.specs.Result.{plain, overflow, Res, got, bad, refuse, on, oneMore, stepped, look, choose, expect, joined, seq}
 use Rattle.grammar.specs.Reader.{closedList, callArgument, builtinArgument, operandStep, identStep, itemTable, item}
 use Rattle.grammar.specs.Records.{typeOf}
-use Rattle.grammar.specs.PlainLength.{bytesOf, measured, mainBytes, innerBytes}
 use Rattle.grammar.proofs.AtPlace.{look-at}
 use Rattle.grammar.proofs.Holds.{cond-says}
-use Rattle.statements.specs.Answers.{partBytes}
 use Rattle.statements.specs.declared.item.Item.the-variants.{Builtin}
 use Rattle.statements.proofs.At.{expect-taken, expect-refused, kind-inside}
 use Rattle.statements.specs.Item.{ItemRead, OneRead, RefusedRead, withList, enclosedItem, opcodeItem, identItem, OnePut, PushPut, pushOpcode, pushLiteral, loneBehind, lonePut}
@@ -102,25 +98,6 @@ module _ (takes : Bool) (wrong p : ℕ) (all : List Token) where
 
 -- ---- and the code's answer for it
 
--- a value push takes one byte at least, and at most 32
-push-some : (b : ℕ) → isValuePush b ≡ true → (0 < pushSize b) × (pushSize b ≤ 32)
-unfolding isValuePush pushSize
-push-some b h =
-    let both = and-eq-true-iff (leb 0x60 b) (leb b 0x7f) .0 h in
-    (omega (arith, leb-true 0x60 b (both .0)), omega (arith, leb-true b 0x7f (both .1)))
-
--- a push's literal counts the bytes that the push takes
-push-bytes : (takes : Bool) (p : ℕ) (t v : Token) → (takes && isValuePush (t .extra)) ≡ true
-    → partBytes takes (single anOpcode p t ∷ single aLiteral (suc p) v ∷ []) ≡ pushSize (t .extra) + 1
-unfolding mainBytes innerBytes
-push-bytes takes p t v w =
-    let both = and-eq-true-iff takes (isValuePush (t .extra)) .0 w in
-    let some : eqb (pushSize (t .extra)) 0 ≡ false = ne-eqb _ _ (not-zero (pushSize (t .extra)) (push-some (t .extra) (both .1) .0)) in
-    rw (both .0, both .1, some) (omega arith)
-  where
-    not-zero : (n : ℕ) → 0 < n → n ≡ 0 → ⊥
-    not-zero n h e = omega arith
-
 -- a list behind a name or a builtin, from its `(` on
 list-behind : (read : ℕ → ℕ → List Token → Res Argument) (sort : Sort) (p : ℕ) (t : Token) (ts : List Token)
     → oneMore (expect OpenParen (plain 1) (λ o. seq (closedList read) (λ args q us. got (called sort p t q args ∷ []) 0)) (p + 1) ts)
@@ -144,9 +121,8 @@ module _ (takes : Bool) (wrong p size : ℕ) (all : List Token) (inside : (q : �
   here : (k : ℕ) → tokenAt all p .kind ≡ k → 0 < k → p < size
   here k e h = inside p (rw e h)
 
-  pub literal-at : (n : ℕ) → tokenAt all p .kind ≡ Literal → n ≡ significant (literalValue (tokenAt all p .text))
-      → OneRead p size (item takes wrong p (drop p all)) (record { ty = 1; end = p + 1; place = p; bytes = n + 1; plain = true })
-  literal-at n e h =
+  pub literal-at : tokenAt all p .kind ≡ Literal → OneRead p size (item takes wrong p (drop p all)) (record { ty = 1; end = p + 1; place = p })
+  literal-at e =
       record {
         what = single aLiteral p (tokenAt all p);
         tokens = 1;
@@ -160,27 +136,21 @@ module _ (takes : Bool) (wrong p size : ℕ) (all : List Token) (inside : (q : �
         place = refl;
         near = omega arith;
         args = refl;
-        bytes = ap suc (sym h) ∙ sym (add-one n);
-        few = omega (arith, significant-between (literalValue (tokenAt all p .text)));
-        plain = refl;
       }
 
   pub opcode-at : tokenAt all p .kind ≡ Opcode
-      → ItemRead takes p size all (item takes wrong p (drop p all)) (opcodeItem takes p (tokenAt all p .extra) (tokenAt all (p + 1) .kind) (tokenAt all (p + 1) .text))
+      → ItemRead p size all (item takes wrong p (drop p all)) (opcodeItem takes p (tokenAt all p .extra) (tokenAt all (p + 1) .kind) (tokenAt all (p + 1) .text))
   unfolding operandStep
   opcode-at e =
       rw add-one
-      (cond-says (ItemRead takes p size all (item takes wrong p (drop p all))) (takes && isValuePush (tokenAt all p .extra))
+      (cond-says (ItemRead p size all (item takes wrong p (drop p all))) (takes && isValuePush (tokenAt all p .extra))
       (λ w.
       let step = push-step takes wrong p all e w in
-      let size-is = push-some (tokenAt all p .extra) (and-eq-true-iff takes (isValuePush (tokenAt all p .extra)) .0 w .1) in
-      cond-says (ItemRead takes p size all (item takes wrong p (drop p all))) (eqb (tokenAt all (suc p) .kind) Literal)
-      (λ k. cond-says (ItemRead takes p size all (item takes wrong p (drop p all))) (fits (tokenAt all p .extra) (tokenAt all (suc p) .text))
+      cond-says (ItemRead p size all (item takes wrong p (drop p all))) (eqb (tokenAt all (suc p) .kind) Literal)
+      (λ k. cond-says (ItemRead p size all (item takes wrong p (drop p all))) (fits (tokenAt all p .extra) (tokenAt all (suc p) .text))
       (λ f. record {
         is = step ∙ rw (k, f);
         inside = let i = inside (suc p) (rw (eqb-true (tokenAt all (suc p) .kind) Literal k) (omega arith)) in omega arith;
-        bytes = push-bytes takes p (tokenAt all p) (tokenAt all (suc p)) w;
-        few = size-is .1;
       })
       (λ f. record { why = overflow; place = suc p; is = step ∙ rw (k, f); number = refl; cursor = omega arith }))
       (λ k. record { why = plain 4; place = suc p; is = step ∙ rw k; number = refl; cursor = omega arith }))
@@ -198,17 +168,14 @@ module _ (takes : Bool) (wrong p size : ℕ) (all : List Token) (inside : (q : �
         place = refl;
         near = omega arith;
         args = refl;
-        bytes = refl;
-        few = omega arith;
-        plain = refl;
       }))
 
-  pub ident-at : tokenAt all p .kind ≡ Ident → ItemRead takes p size all (item takes wrong p (drop p all)) (identItem p (tokenAt all (p + 1) .kind))
+  pub ident-at : tokenAt all p .kind ≡ Ident → ItemRead p size all (item takes wrong p (drop p all)) (identItem p (tokenAt all (p + 1) .kind))
   unfolding identStep
   ident-at e =
       let step = ident-step takes wrong p all e in
       rw add-one
-      (cond-says (ItemRead takes p size all (item takes wrong p (drop p all))) (eqb (tokenAt all (suc p) .kind) OpenParen)
+      (cond-says (ItemRead p size all (item takes wrong p (drop p all))) (eqb (tokenAt all (suc p) .kind) OpenParen)
       (λ k. (
         here Ident e (omega arith),
         call-step takes wrong p all e k ∙ list-behind callArgument anInvocation p (tokenAt all p) (drop (p + 1) all),
@@ -227,27 +194,24 @@ module _ (takes : Bool) (wrong p size : ℕ) (all : List Token) (inside : (q : �
         place = refl;
         near = omega arith;
         args = refl;
-        bytes = refl;
-        few = omega arith;
-        plain = refl;
       }))
 
   pub builtin-at : tokenAt all p .kind ≡ BuiltinFunction
-      → ItemRead takes p size all (item takes wrong p (drop p all)) Builtin
+      → ItemRead p size all (item takes wrong p (drop p all)) Builtin
   builtin-at e = (
     here BuiltinFunction e (omega arith),
     builtin-step takes wrong p all e ∙ list-behind builtinArgument aBuiltin p (tokenAt all p) (drop (p + 1) all),
   )
 
   -- a name between two signs
-  enclosed-at : (sort : Sort) (y close ty : ℕ) → 0 < close → typeOf sort ≡ ty → ((u : Token) → bytesOf sort 0 u ≡ 0) → measured sort ≡ false
+  enclosed-at : (sort : Sort) (y close ty : ℕ) → 0 < close → typeOf sort ≡ ty
       → item takes wrong p (drop p all) ≡ oneMore (expect Ident (plain y) (λ i. expect close (plain 1) (λ r q ts. got (enclosed sort p i ∷ []) 0)) (p + 1) (drop (p + 1) all))
-      → ItemRead takes p size all (item takes wrong p (drop p all)) (enclosedItem y close ty p (tokenAt all (p + 1) .kind) (tokenAt all (p + 2) .kind))
-  enclosed-at sort y close ty pos is-ty none unmeasured step =
-      cond-says (ItemRead takes p size all (item takes wrong p (drop p all))) (eqb (tokenAt all (p + 1) .kind) Ident)
+      → ItemRead p size all (item takes wrong p (drop p all)) (enclosedItem y close ty p (tokenAt all (p + 1) .kind) (tokenAt all (p + 2) .kind))
+  enclosed-at sort y close ty pos is-ty step =
+      cond-says (ItemRead p size all (item takes wrong p (drop p all))) (eqb (tokenAt all (p + 1) .kind) Ident)
       (λ k.
       let named = step ∙ ap oneMore (expect-taken Ident (plain y) (λ i. expect close (plain 1) (λ r q ts. got (enclosed sort p i ∷ []) 0)) (p + 1) all (eqb-true _ _ k)) in
-      cond-says (ItemRead takes p size all (item takes wrong p (drop p all))) (eqb (tokenAt all (p + 2) .kind) close)
+      cond-says (ItemRead p size all (item takes wrong p (drop p all))) (eqb (tokenAt all (p + 2) .kind) close)
       (λ l.
       let behind-it : tokenAt all (p + 1 + 1) .kind ≡ close = ap (λ (q : ℕ). tokenAt all q .kind) two ∙ eqb-true _ _ l in
       record {
@@ -263,9 +227,6 @@ module _ (takes : Bool) (wrong p size : ℕ) (all : List Token) (inside : (q : �
         place = sym (add-one p);
         near = omega arith;
         args = refl;
-        bytes = none (tokenAt all (p + 1));
-        few = omega arith;
-        plain = unmeasured;
       })
       (λ l. record {
         why = plain 1;
@@ -288,18 +249,18 @@ module _ (takes : Bool) (wrong p size : ℕ) (all : List Token) (inside : (q : �
       no : {k l : ℕ} → eqb k l ≡ false → k ≡ l → ⊥
       no {k} {l} f z = true≢false (sym (eq-eqb k l z) ∙ f)
 
-  pub constant-at : tokenAt all p .kind ≡ OpenBracket → ItemRead takes p size all (item takes wrong p (drop p all)) (enclosedItem 12 CloseBracket 6 p (tokenAt all (p + 1) .kind) (tokenAt all (p + 2) .kind))
-  constant-at e = enclosed-at aConstant 12 CloseBracket 6 (omega arith) refl (λ u. refl) refl (constant-step takes wrong p all e)
+  pub constant-at : tokenAt all p .kind ≡ OpenBracket → ItemRead p size all (item takes wrong p (drop p all)) (enclosedItem 12 CloseBracket 6 p (tokenAt all (p + 1) .kind) (tokenAt all (p + 2) .kind))
+  constant-at e = enclosed-at aConstant 12 CloseBracket 6 (omega arith) refl (constant-step takes wrong p all e)
 
-  pub argument-at : tokenAt all p .kind ≡ LeftAngle → ItemRead takes p size all (item takes wrong p (drop p all)) (enclosedItem 13 RightAngle 7 p (tokenAt all (p + 1) .kind) (tokenAt all (p + 2) .kind))
-  argument-at e = enclosed-at anArgumentCall 13 RightAngle 7 (omega arith) refl (λ u. refl) refl (argument-step takes wrong p all e)
+  pub argument-at : tokenAt all p .kind ≡ LeftAngle → ItemRead p size all (item takes wrong p (drop p all)) (enclosedItem 13 RightAngle 7 p (tokenAt all (p + 1) .kind) (tokenAt all (p + 2) .kind))
+  argument-at e = enclosed-at anArgumentCall 13 RightAngle 7 (omega arith) refl (argument-step takes wrong p all e)
 
 -- both records of a push
-pub push-put : {st st₁ st₂ : List ℕ} {s t u : Tally} {i a n : ℕ} → OnePut st s i a (pushOpcode s) t st₁ → OnePut st₁ t i a (pushLiteral s n) u st₂ → PushPut st s i a n u st₂
-push-put {st} {st₁} {s = s} {t = t} {i = i} {a = a} {n = n} v w =
+pub push-put : {st st₁ st₂ : List ℕ} {s t u : Tally} {i a : ℕ} → OnePut st s i a (pushOpcode s) t st₁ → OnePut st₁ t i a (pushLiteral s) u st₂ → PushPut st s i a u st₂
+push-put {st} {st₁} {s = s} {t = t} {i = i} {a = a} v w =
     record {
-      is = w .is ∙ ap (λ (x : Tally). loneBehind x (pushLiteral s n)) (v .is);
-      table = w .table ∙ ap (λ (l : List ℕ). lonePut l t i a (pushLiteral s n)) (v .table) ∙ ap (λ (x : Tally). lonePut (lonePut st s i a (pushOpcode s)) x i a (pushLiteral s n)) (v .is);
+      is = w .is ∙ ap (λ (x : Tally). loneBehind x (pushLiteral s)) (v .is);
+      table = w .table ∙ ap (λ (l : List ℕ). lonePut l t i a (pushLiteral s)) (v .table) ∙ ap (λ (x : Tally). lonePut (lonePut st s i a (pushOpcode s)) x i a (pushLiteral s)) (v .is);
     }
 
 -- the view's tokens inside the kept list

@@ -8,6 +8,7 @@ pub mod ItemLaws
 pub mod Pieces
 pub mod StatementLaws
 pub mod BodyLaws
+pub mod LengthLaws
 pub mod EntryLaws
 pub mod Fixed
 pub mod Bounds

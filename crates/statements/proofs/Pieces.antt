@@ -1,9 +1,8 @@
 -- A stretch of statements that was read and written, and stretches one behind the other. Assumes nothing.
-use Prim.Native.Nat.{ℕ, _+_, _*_, _≤_}
+use Prim.Native.Nat.{ℕ, _+_, _≤_}
 use native.Mathlib.Nat.{add-assoc, add-zero}
 use native.Mathlib.Omega.{arith}
 use mathlib.Core.Path.{_≡_, refl, sym, ap, _∙_}
-use mathlib.Core.Bool.{Bool, true, _&&_, and-assoc, and-true}
 use mathlib.Core.List.{List, [], _++_}
 use lib.ListN.{length}
 use Rattle.tokens.specs.Table.{putAll}
@@ -14,57 +13,54 @@ use Rattle.statements.specs.declared.item.Items.{Items}
 use Rattle.statements.specs.declared.item.Items.the-variants.{Done, Refused}
 use Rattle.statements.specs.Answers.{tallied, Parsed, TallyWithin}
 
--- k tokens from s.at on, up to t: n statements with the records rs, m arguments with the records qs, b bytes, and whether all have a length
-pub record Piece (s : Tally) (size k n m b : ℕ) (q : Bool) (rs qs : List (List ℕ)) (st ar : List ℕ) (t : Tally) (st′ ar′ : List ℕ) : Type 0 where
-  pub is : t ≡ tallied s k n m b q
+-- k tokens from s.at on, up to t: n statements with the records rs, and m arguments with the records qs
+pub record Piece (s : Tally) (size k n m : ℕ) (rs qs : List (List ℕ)) (st ar : List ℕ) (t : Tally) (st′ ar′ : List ℕ) : Type 0 where
+  pub is : t ≡ tallied s k n m
   pub statements : st′ ≡ putAll 8 st (s .statements) rs
   pub arguments : ar′ ≡ putAll 7 ar (s .arguments) qs
   pub inside : s .at + k ≤ size
   pub fewStatements : n ≤ k
   pub fewArguments : m ≤ k
-  pub fewBytes : b ≤ 33 * k
 
 -- nothing was read
-pub no-piece : (s : Tally) (size : ℕ) (st ar : List ℕ) → s .at ≤ size → Piece s size 0 0 0 0 true [] [] st ar s st ar
+pub no-piece : (s : Tally) (size : ℕ) (st ar : List ℕ) → s .at ≤ size → Piece s size 0 0 0 [] [] st ar s st ar
 unfolding putAll
 no-piece s size st ar h =
     record {
-      is = simp (add-zero, and-true);
+      is = simp add-zero;
       statements = refl;
       arguments = refl;
       inside = omega arith;
       fewStatements = omega arith;
       fewArguments = omega arith;
-      fewBytes = omega arith;
     }
 
 -- one behind the other
-pub piece-then : {s t u : Tally} {size k n m b k′ n′ m′ b′ : ℕ} {q q′ : Bool} {rs qs rs′ qs′ : List (List ℕ)} {st ar st₁ ar₁ st₂ ar₂ : List ℕ}
-    → Piece s size k n m b q rs qs st ar t st₁ ar₁
+pub piece-then : {s t u : Tally} {size k n m k′ n′ m′ : ℕ} {rs qs rs′ qs′ : List (List ℕ)} {st ar st₁ ar₁ st₂ ar₂ : List ℕ}
+    → Piece s size k n m rs qs st ar t st₁ ar₁
     → length rs ≡ n
     → length qs ≡ m
-    → Piece t size k′ n′ m′ b′ q′ rs′ qs′ st₁ ar₁ u st₂ ar₂
-    → Piece s size (k + k′) (n + n′) (m + m′) (b + b′) (q && q′) (rs ++ rs′) (qs ++ qs′) st ar u st₂ ar₂
-piece-then {s} {t} {k = k} {n = n} {m = m} {b = b} {k′ = k′} {n′ = n′} {m′ = m′} {b′ = b′} {q = q} {q′ = q′} {rs = rs} {qs = qs} {rs′ = rs′} {qs′ = qs′} {st = st} {ar = ar} {st₁ = st₁} {ar₁ = ar₁} v lr lq w =
+    → Piece t size k′ n′ m′ rs′ qs′ st₁ ar₁ u st₂ ar₂
+    → Piece s size (k + k′) (n + n′) (m + m′) (rs ++ rs′) (qs ++ qs′) st ar u st₂ ar₂
+piece-then {s} {t} {k = k} {n = n} {m = m} {k′ = k′} {n′ = n′} {m′ = m′} {rs = rs} {qs = qs} {rs′ = rs′} {qs′ = qs′} {st = st} {ar = ar} {st₁ = st₁} {ar₁ = ar₁} v lr lq w =
     let at : t .at ≡ s .at + k = ap (λ (x : Tally). x .at) (v .is) in
     let first : t .statements ≡ s .statements + length rs = ap (λ (x : Tally). x .statements) (v .is) ∙ ap (λ (x : ℕ). s .statements + x) (sym lr) in
     let second : t .arguments ≡ s .arguments + length qs = ap (λ (x : Tally). x .arguments) (v .is) ∙ ap (λ (x : ℕ). s .arguments + x) (sym lq) in
     record {
-      is = w .is ∙ ap (λ (x : Tally). tallied x k′ n′ m′ b′ q′) (v .is) ∙ rw (add-assoc (s .at) k k′, add-assoc (s .statements) n n′, add-assoc (s .arguments) m m′, add-assoc (s .bytes) b b′, and-assoc (s .plain) q q′);
+      is = w .is ∙ ap (λ (x : Tally). tallied x k′ n′ m′) (v .is) ∙ rw (add-assoc (s .at) k k′, add-assoc (s .statements) n n′, add-assoc (s .arguments) m m′);
       statements = w .statements ∙ ap (λ (x : ℕ). putAll 8 st₁ x rs′) first ∙ ap (λ (l : List ℕ). putAll 8 l (s .statements + length rs) rs′) (v .statements) ∙ sym (putAll-append 8 st (s .statements) rs rs′);
       arguments = w .arguments ∙ ap (λ (x : ℕ). putAll 7 ar₁ x qs′) second ∙ ap (λ (l : List ℕ). putAll 7 l (s .arguments + length qs) qs′) (v .arguments) ∙ sym (putAll-append 7 ar (s .arguments) qs qs′);
       inside = omega (arith, w .inside, at);
       fewStatements = omega (arith, v .fewStatements, w .fewStatements);
       fewArguments = omega (arith, v .fewArguments, w .fewArguments);
-      fewBytes = omega (arith, v .fewBytes, w .fewBytes);
     }
 
 module _ {A : Type 0} (answer : Tally → Res A → Items) (records : ℕ → ℕ → A → List (List ℕ)) (arguments : A → List (List ℕ)) (i a : ℕ) where
   -- a piece is what the parser of such a reading promises
-  pub piece-parsed : {s t : Tally} {size k n m b : ℕ} {q : Bool} {rs qs : List (List ℕ)} {st ar st′ ar′ : List ℕ} {read : Res A} (x : A)
-      → Piece s size k n m b q rs qs st ar t st′ ar′
+  pub piece-parsed : {s t : Tally} {size k n m : ℕ} {rs qs : List (List ℕ)} {st ar st′ ar′ : List ℕ} {read : Res A} (x : A)
+      → Piece s size k n m rs qs st ar t st′ ar′
       → read ≡ got x k
-      → answer s (got x k) ≡ Done (tallied s k n m b q)
+      → answer s (got x k) ≡ Done (tallied s k n m)
       → records (i + s .statements) (a + s .arguments) x ≡ rs
       → arguments x ≡ qs
       → Parsed answer records arguments s i a size read st ar (Done t) st′ ar′
@@ -74,17 +70,17 @@ module _ {A : Type 0} (answer : Tally → Res A → Items) (records : ℕ → �
         is = ap Done (v .is) ∙ sym tells;
         statementTable = v .statements ∙ ap (putAll 8 st (s .statements)) (sym first);
         argumentTable = v .arguments ∙ ap (putAll 7 ar (s .arguments)) (sym second);
-        within = rw (v .is) (omega (arith, v .inside), omega (arith, v .inside), omega (arith, v .fewStatements), omega (arith, v .fewArguments), omega (arith, v .fewBytes));
+        within = rw (v .is) (omega (arith, v .inside), omega (arith, v .inside), omega (arith, v .fewStatements), omega (arith, v .fewArguments));
       })
 
   -- and the other way round
-  pub parsed-piece : {s : Tally} {size k n m b : ℕ} {q : Bool} {st ar st′ ar′ : List ℕ} {r : Items} {x : A}
+  pub parsed-piece : {s : Tally} {size k n m : ℕ} {st ar st′ ar′ : List ℕ} {r : Items} {x : A}
       → Parsed answer records arguments s i a size (got x k) st ar r st′ ar′
-      → answer s (got x k) ≡ Done (tallied s k n m b q)
-      → (r ≡ Done (tallied s k n m b q)) × Piece s size k n m b q (records (i + s .statements) (a + s .arguments) x) (arguments x) st ar (tallied s k n m b q) st′ ar′
-  parsed-piece {s} {size} {k} {n} {m} {b} {q} v tells =
-      let is : _ ≡ Done (tallied s k n m b q) = v .is ∙ tells in
-      let h : TallyWithin s size (Done (tallied s k n m b q)) = rw is at (v .within) in (
+      → answer s (got x k) ≡ Done (tallied s k n m)
+      → (r ≡ Done (tallied s k n m)) × Piece s size k n m (records (i + s .statements) (a + s .arguments) x) (arguments x) st ar (tallied s k n m) st′ ar′
+  parsed-piece {s} {size} {k} {n} {m} v tells =
+      let is : _ ≡ Done (tallied s k n m) = v .is ∙ tells in
+      let h : TallyWithin s size (Done (tallied s k n m)) = rw is at (v .within) in (
         is,
         record {
           is = refl;
@@ -93,7 +89,6 @@ module _ {A : Type 0} (answer : Tally → Res A → Items) (records : ℕ → �
           inside = h .1;
           fewStatements = omega (arith, h .2);
           fewArguments = omega (arith, h .3);
-          fewBytes = omega (arith, h .4);
         },
       )
 

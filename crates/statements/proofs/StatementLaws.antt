@@ -4,7 +4,6 @@ use native.Mathlib.Nat.{add-zero}
 use native.Mathlib.Numerals.{add-one}
 use native.Mathlib.Omega.{arith}
 use mathlib.Core.Path.{_≡_, refl, sym, ap, _∙_}
-use mathlib.Core.Bool.{Bool, true, false, _&&_, and-true}
 use mathlib.Core.List.{List, [], _∷_, map, append-nil}
 use lib.ListN.{length}
 use Rattle.tokens.specs.Token.{Token}
@@ -12,85 +11,68 @@ use Rattle.tokens.specs.Table.{putAll}
 use Rattle.grammar.specs.Reading.{Argument, Simple, Sort, called}
 use Rattle.grammar.specs.Result.{number, beyond, Res, got, bad}
 use Rattle.grammar.specs.Records.{typeOf, simpleRecord, argumentRecord, argumentsOf, simpleRecords}
-use Rattle.grammar.specs.PlainLength.{bytesOf, measured, mainBytes, innerBytes, allMeasured}
 use Rattle.statements.specs.declared.item.Tally.{Tally}
 use Rattle.statements.specs.declared.item.Lone.{Lone}
 use Rattle.statements.specs.declared.item.Items.{Items}
-use Rattle.statements.specs.declared.item.Items.the-variants.{Done, Refused}
+use Rattle.statements.specs.declared.item.Items.the-variants.{Done}
 use Rattle.statements.specs.declared.list.ArgList.{ArgList}
 use Rattle.statements.specs.declared.list.ArgList.the-variants as lists
-use Rattle.statements.specs.Answers.{partBytes, simpleAnswer, simpleArguments, SimpleParsed, ListRead, ListWithin}
+use Rattle.statements.specs.Answers.{simpleAnswer, simpleArguments, SimpleParsed, ListRead, ListWithin}
 use Rattle.statements.specs.Item.{OneRead, PushRead, withList, simpleWords, further, OnePut, PushPut, CalledPut, listInside}
 use Rattle.statements.proofs.Pieces.{Piece, piece-parsed, refused-parsed}
 
 -- two tallies with the same numbers
-pub tally-same : {a b c d a′ b′ c′ d′ : ℕ} {q q′ : Bool} → a ≡ a′ → b ≡ b′ → c ≡ c′ → d ≡ d′ → q ≡ q′
-    → _≡_ {A = Tally} (record { at = a; statements = b; arguments = c; bytes = d; plain = q }) (record { at = a′; statements = b′; arguments = c′; bytes = d′; plain = q′ })
-tally-same e f g h k = rw (e, f, g, h, k)
+pub tally-same : {a b c a′ b′ c′ : ℕ} → a ≡ a′ → b ≡ b′ → c ≡ c′
+    → _≡_ {A = Tally} (record { at = a; statements = b; arguments = c }) (record { at = a′; statements = b′; arguments = c′ })
+tally-same e f g = rw (e, f, g)
 
 -- the record of a statement, by what is known of it
 record-words : (i a : ℕ) (x : Simple) (s : Tally) {ty end count place : ℕ} → typeOf (x .sort) ≡ ty → x .first ≡ s .at → x .end ≡ end → length (x .args) ≡ count → x .place ≡ place
     → simpleRecord (i + s .statements) (a + s .arguments) x ≡ simpleWords s i a ty end count place
 record-words i a x s e f g h k = rw (e, f, g, h, k, add-one)
 
--- the bytes of a single statement, whatever the part
-one-bytes : (takes : Bool) (x : Simple) → partBytes takes (x ∷ []) ≡ bytesOf (x .sort) 0 (x .token)
-unfolding mainBytes innerBytes
-one-bytes true x = add-zero (bytesOf (x .sort) 0 (x .token))
-one-bytes false x = add-zero (bytesOf (x .sort) 0 (x .token))
-
-one-measured : (x : Simple) → allMeasured (x ∷ []) ≡ measured (x .sort)
-unfolding allMeasured
-one-measured x = and-true (measured (x .sort))
-
 one-arguments : (x : Simple) → argumentsOf (x ∷ []) ≡ x .args
 unfolding argumentsOf
 one-arguments x = append-nil (x .args)
 
-module _ (takes : Bool) (i a size : ℕ) where
-  simple-from : {s t : Tally} {k n m b : ℕ} {q : Bool} {rs qs : List (List ℕ)} {st ar st′ ar′ : List ℕ} {read : Res (List Simple)} (ss : List Simple)
-      → Piece s size k n m b q rs qs st ar t st′ ar′
+module _ (i a size : ℕ) where
+  simple-from : {s t : Tally} {k n m : ℕ} {rs qs : List (List ℕ)} {st ar st′ ar′ : List ℕ} {read : Res (List Simple)} (ss : List Simple)
+      → Piece s size k n m rs qs st ar t st′ ar′
       → read ≡ got ss k
       → length ss ≡ n
       → length (argumentsOf ss) ≡ m
-      → partBytes takes ss ≡ b
-      → allMeasured ss ≡ q
       → simpleRecords (i + s .statements) (a + s .arguments) ss ≡ rs
       → simpleArguments ss ≡ qs
-      → SimpleParsed takes s i a size read st ar (Done t) st′ ar′
-  simple-from ss v e en em eb eq er ea =
-      piece-parsed (simpleAnswer takes) simpleRecords simpleArguments i a ss v e (rw (en, em, eb, eq)) er ea
+      → SimpleParsed s i a size read st ar (Done t) st′ ar′
+  simple-from ss v e en em er ea = piece-parsed simpleAnswer simpleRecords simpleArguments i a ss v e (rw (en, em)) er ea
 
   -- one statement
   pub one-parsed : {s t : Tally} {st ar st′ : List ℕ} {read : Res (List Simple)} {x : Lone}
-      → OneRead (s .at) size read x → OnePut st s i a x t st′ → SimpleParsed takes s i a size read st ar (Done t) st′ ar
+      → OneRead (s .at) size read x → OnePut st s i a x t st′ → SimpleParsed s i a size read st ar (Done t) st′ ar
   unfolding putAll simpleRecords
   one-parsed {s} {t} {st} {ar} {st′} {x = x} o v =
       simple-from (o .what ∷ []) piece (o .is) refl
       (ap length (one-arguments (o .what) ∙ o .args))
-      (one-bytes takes (o .what) ∙ o .bytes)
-      (one-measured (o .what) ∙ o .plain)
       (ap (λ (w : List ℕ). w ∷ []) (record-words i a (o .what) s (o .sort) (o .first) (o .end) (ap length (o .args)) (o .place)))
       (ap (map argumentRecord) (one-arguments (o .what) ∙ o .args))
     where
-      piece : Piece s size (o .tokens) 1 0 (x .bytes) (x .plain) (simpleWords s i a (x .ty) (x .end) 0 (x .place) ∷ []) [] st ar t st′ ar
+      piece : Piece s size (o .tokens) 1 0 (simpleWords s i a (x .ty) (x .end) 0 (x .place) ∷ []) [] st ar t st′ ar
       piece =
           record {
-            is = v .is ∙ tally-same (o .behind) refl (sym (add-zero (s .arguments))) refl refl;
+            is = v .is ∙ tally-same (o .behind) refl (sym (add-zero (s .arguments)));
             statements = v .table;
             arguments = refl;
             inside = omega (arith, o .inside, o .behind);
             fewStatements = omega (arith, o .some);
             fewArguments = omega arith;
-            fewBytes = o .few;
           }
 
   -- a push with its literal
-  pub push-parsed : {s t : Tally} {st ar st′ : List ℕ} {all : List Token} {read : Res (List Simple)} {n : ℕ}
-      → PushRead takes (s .at) size all read n → PushPut st s i a n t st′ → SimpleParsed takes s i a size read st ar (Done t) st′ ar
-  unfolding putAll simpleRecords argumentsOf allMeasured
-  push-parsed {s} {t} {st} {ar} {st′} {all} {n = n} o v =
-      simple-from _ piece (o .is) refl refl (o .bytes) refl
+  pub push-parsed : {s t : Tally} {st ar st′ : List ℕ} {all : List Token} {read : Res (List Simple)}
+      → PushRead (s .at) size all read → PushPut st s i a t st′ → SimpleParsed s i a size read st ar (Done t) st′ ar
+  unfolding putAll simpleRecords argumentsOf
+  push-parsed {s} {t} {st} {ar} {st′} {all} o v =
+      simple-from _ piece (o .is) refl refl
       (words-same (omega arith) (omega arith) (omega arith) (omega arith) (omega arith) (omega arith) (omega arith))
       refl
     where
@@ -98,18 +80,17 @@ module _ (takes : Bool) (i a size : ℕ) where
           → _≡_ {A = List (List ℕ)} ((2 ∷ p ∷ x₁ ∷ x₂ ∷ 0 ∷ c ∷ 0 ∷ p ∷ []) ∷ (1 ∷ y₁ ∷ y₂ ∷ y₃ ∷ 0 ∷ x₃ ∷ 0 ∷ y₄ ∷ []) ∷ []) ((2 ∷ p ∷ x₁′ ∷ x₂′ ∷ 0 ∷ c ∷ 0 ∷ p ∷ []) ∷ (1 ∷ y₁′ ∷ y₂′ ∷ y₃′ ∷ 0 ∷ x₃′ ∷ 0 ∷ y₄′ ∷ []) ∷ [])
       words-same e f g h j k l = rw (e, f, g, h, j, k, l)
 
-      piece : Piece s size 2 2 0 (n + 1) true
+      piece : Piece s size 2 2 0
           ((2 ∷ s .at ∷ (s .at + 1) ∷ (i + s .statements + 1) ∷ 0 ∷ (a + s .arguments) ∷ 0 ∷ s .at ∷ []) ∷ (1 ∷ (s .at + 1) ∷ (s .at + 1 + 1) ∷ (i + (s .statements + 1) + 1) ∷ 0 ∷ (a + s .arguments) ∷ 0 ∷ (s .at + 1) ∷ []) ∷ [])
           [] st ar t st′ ar
       piece =
           record {
-            is = v .is ∙ tally-same (omega arith) (omega arith) (omega arith) (omega arith) (and-true (s .plain && true));
+            is = v .is ∙ tally-same (omega arith) (omega arith) (omega arith);
             statements = v .table;
             arguments = refl;
             inside = o .inside;
             fewStatements = omega arith;
             fewArguments = omega arith;
-            fewBytes = omega (arith, o .few);
           }
 
   -- a name or a builtin with its list
@@ -118,19 +99,15 @@ module _ (takes : Bool) (i a size : ℕ) where
       → ListRead (s .arguments) (s .at + 1) size lread ar list ar′
       → CalledPut st s i a ty list r st′
       → typeOf sort ≡ ty
-      → bytesOf sort 0 t ≡ 0
-      → measured sort ≡ false
-      → SimpleParsed takes s i a size read st ar r st′ ar′
+      → SimpleParsed s i a size read st ar r st′ ar′
   unfolding putAll simpleRecords
-  list-parsed {s} {st} {ar} {st′} {ar′} {read} {list} {r} sort t (bad y w) ty e l c ty-is none un =
+  list-parsed {s} {st} {ar} {st′} {ar′} {read} {list} {r} sort t (bad y w) ty e l c ty-is =
       let c′ : CalledPut st s i a ty (lists.Refused (number y) (w + beyond y)) r st′ = rw (l .is) at c in
-      rw (c′ .is) (refused-parsed (simpleAnswer takes) simpleRecords simpleArguments i a y w e refl refl refl)
-  list-parsed {s} {st} {ar} {st′} {ar′} {read} {list} {r} sort t (got args k) ty e l c ty-is none un =
+      rw (c′ .is) (refused-parsed simpleAnswer simpleRecords simpleArguments i a y w e refl refl refl)
+  list-parsed {s} {st} {ar} {st′} {ar′} {read} {list} {r} sort t (got args k) ty e l c ty-is =
       rw (c′ .is)
       (simple-from (x ∷ []) piece e refl
       (ap length (one-arguments x))
-      (one-bytes takes x ∙ none)
-      (one-measured x ∙ un)
       (ap (λ (w : List ℕ). w ∷ []) (record-words i a x s ty-is refl refl (omega arith) refl))
       (ap (map argumentRecord) (one-arguments x)))
     where
@@ -143,16 +120,15 @@ module _ (takes : Bool) (i a size : ℕ) where
       h : ListWithin (s .arguments) (s .at + 1) size (lists.Done (s .arguments + length args) (s .at + 1 + k))
       h = rw (l .is) at (l .within)
 
-      piece : Piece s size (suc k) 1 (length args) 0 false (simpleWords s i a ty (s .at + 1 + k) (s .arguments + length args - s .arguments) (s .at) ∷ []) (map argumentRecord args) st ar (further s (s .at + 1 + k) (s .arguments + length args) 0 false) st′ ar′
+      piece : Piece s size (suc k) 1 (length args) (simpleWords s i a ty (s .at + 1 + k) (s .arguments + length args - s .arguments) (s .at) ∷ []) (map argumentRecord args) st ar (further s (s .at + 1 + k) (s .arguments + length args)) st′ ar′
       piece =
           record {
-            is = tally-same (omega arith) refl refl refl refl;
+            is = tally-same (omega arith) refl refl;
             statements = c′ .table;
             arguments = l .records;
             inside = omega (arith, h .1);
             fewStatements = omega arith;
             fewArguments = omega (arith, h .2);
-            fewBytes = omega arith;
           }
 
 -- what a list's writer needs

@@ -1,7 +1,7 @@
 -- How the code's answers and tables hold what the reader reads.
-use Prim.Native.Nat.{ℕ, suc, _+_, _*_, _≤_, _<_}
+use Prim.Native.Nat.{ℕ, suc, _+_, _≤_, _<_}
 use mathlib.Core.Path.{_≡_}
-use mathlib.Core.Bool.{Bool, true, false, cond, _&&_}
+use mathlib.Core.Bool.{true, false}
 use mathlib.Core.List.{List, [], _∷_, map, flatten}
 use lib.ListN.{length, drop}
 use Rattle.tokens.specs.Token.{Token, view, Numbered}
@@ -13,7 +13,6 @@ use Rattle.grammar.specs.Result.{number, beyond, plain, Res, got, bad, expect, 
 use Rattle.grammar.specs.Reader.{callArgument, builtinArgument, nameArgument}
 use Rattle.grammar.specs.Typed.{locationHere, typedName, typedArgument}
 use Rattle.grammar.specs.Records.{argumentRecord, argumentsOf, groupArguments, argumentRecords, simpleRecords, groupRecords, statementRecords, groupCount, statementCount, argumentCount}
-use Rattle.grammar.specs.PlainLength.{mainBytes, innerBytes, groupBytes, allMeasured, groupsMeasured}
 use Rattle.statements.specs.declared.argument.Argument.{Argument}
 use Rattle.statements.specs.declared.argument.Arg.{Arg}
 use Rattle.statements.specs.declared.argument.Arg.the-variants as arg
@@ -124,11 +123,6 @@ pub record SingleRead (p size : ℕ) (read : Res ℕ) (r : Single) : Type 0 wher
 
 -- ---- statements
 
--- the bytes of a part's statements: in the macro part a push's literal counts with its push, in a label it does not
-abbrev pub partBytes : Bool → List Simple → ℕ
-partBytes true ss = mainBytes 0 ss
-partBytes false ss = innerBytes ss
-
 -- a tally, the numbers of records before the lent tables (i statements, a arguments), and what the calls need of them
 pub record Counting (words kept : List ℕ) (s : Tally) (i a : ℕ) : Type 0 where
   pub numbered : Numbered words kept
@@ -136,29 +130,26 @@ pub record Counting (words kept : List ℕ) (s : Tally) (i a : ℕ) : Type 0 whe
   pub inside : s .at ≤ length kept
   pub statements : s .statements ≤ s .at
   pub arguments : s .arguments ≤ s .at
-  pub bytes : s .bytes ≤ 33 * s .at
   pub statementsBefore : i ≤ 65536
   pub argumentsBefore : a ≤ 65536
 
--- k tokens further, with these many records, bytes, and whether all have a length
-abbrev pub tallied : Tally → ℕ → ℕ → ℕ → ℕ → Bool → Tally
-tallied s k m n b q =
-    record { at = s .at + k; statements = s .statements + m; arguments = s .arguments + n; bytes = s .bytes + b; plain = s .plain && q }
+-- k tokens further, with these many records
+abbrev pub tallied : Tally → ℕ → ℕ → ℕ → Tally
+tallied s k m n = record { at = s .at + k; statements = s .statements + m; arguments = s .arguments + n }
 
--- statements that are no labels, of a part of which `takes` says whether a push takes its literal
-abbrev pub simpleAnswer : Bool → Tally → Res (List Simple) → Items
-simpleAnswer takes s (got ss k) = items.Done (tallied s k (length ss) (length (argumentsOf ss)) (partBytes takes ss) (allMeasured ss))
-simpleAnswer takes s (bad y w) = items.Refused (number y) (w + beyond y)
+-- statements that are no labels
+abbrev pub simpleAnswer : Tally → Res (List Simple) → Items
+simpleAnswer s (got ss k) = items.Done (tallied s k (length ss) (length (argumentsOf ss)))
+simpleAnswer s (bad y w) = items.Refused (number y) (w + beyond y)
 
 -- label groups
 abbrev pub groupsAnswer : Tally → Res (List Group) → Items
-groupsAnswer s (got gs k) = items.Done (tallied s k (groupCount gs) (length (groupArguments gs)) (groupBytes gs) (groupsMeasured gs))
+groupsAnswer s (got gs k) = items.Done (tallied s k (groupCount gs) (length (groupArguments gs)))
 groupsAnswer s (bad y w) = items.Refused (number y) (w + beyond y)
 
 -- a body
 abbrev pub bodyAnswer : Tally → Res Reading → Items
-bodyAnswer s (got r k) =
-    items.Done (tallied s k (statementCount r) (argumentCount r) (mainBytes 0 (r .main) + groupBytes (r .groups)) (allMeasured (r .main) && groupsMeasured (r .groups)))
+bodyAnswer s (got r k) = items.Done (tallied s k (statementCount r) (argumentCount r))
 bodyAnswer s (bad y w) = items.Refused (number y) (w + beyond y)
 
 -- units of statements as one list; one group as a list
@@ -181,7 +172,6 @@ TallyWithin s size (items.Done t) =
     × (t .at ≤ size)
     × (t .statements + s .at ≤ s .statements + t .at)
     × (t .arguments + s .at ≤ s .arguments + t .at)
-    × (t .bytes + 33 * s .at ≤ s .bytes + 33 * t .at)
 TallyWithin s size (items.Refused c q) = Unit {0}
 
 -- what a parser of statements promises: its answer, both tables, and bounds. i and a are the numbers of records before the lent tables.
@@ -198,8 +188,8 @@ abbrev pub groupsArguments : List Group → List (List ℕ)
 groupsArguments gs = map argumentRecord (groupArguments gs)
 
 -- of statements that are no labels, of label groups, of a body
-abbrev pub SimpleParsed : Bool → Tally → ℕ → ℕ → ℕ → Res (List Simple) → List ℕ → List ℕ → Items → List ℕ → List ℕ → Type 0
-SimpleParsed takes = Parsed (simpleAnswer takes) simpleRecords simpleArguments
+abbrev pub SimpleParsed : Tally → ℕ → ℕ → ℕ → Res (List Simple) → List ℕ → List ℕ → Items → List ℕ → List ℕ → Type 0
+SimpleParsed = Parsed simpleAnswer simpleRecords simpleArguments
 
 abbrev pub GroupsParsed : Tally → ℕ → ℕ → ℕ → Res (List Group) → List ℕ → List ℕ → Items → List ℕ → List ℕ → Type 0
 GroupsParsed = Parsed groupsAnswer groupRecords groupsArguments

@@ -1,19 +1,18 @@
 -- One item: what its reader answers, and what its writers write.
-use Prim.Native.Nat.{ℕ, suc, _+_, _-_, _*_, _≤_, _<_}
+use Prim.Native.Nat.{ℕ, suc, _+_, _-_, _≤_, _<_}
 use mathlib.Core.Path.{_≡_}
-use mathlib.Core.Bool.{Bool, true, false, cond, _&&_}
+use mathlib.Core.Bool.{Bool, cond, _&&_}
 use mathlib.Core.List.{List, [], _∷_}
 use lib.Dec.{eqb}
 use Rattle.tokens.specs.Kind.{OpenParen, Ident, Literal}
 use Rattle.tokens.specs.Token.{Token, tokenAt}
-use Rattle.tokens.specs.Push.{isValuePush, pushSize, fits}
+use Rattle.tokens.specs.Push.{isValuePush, fits}
 use Rattle.tokens.specs.Table.{put}
 use lib.ListN.{drop}
 use Rattle.grammar.specs.Reading.{Argument, Simple, Sort, anOpcode, aLiteral, anInvocation, aBuiltin, single, called}
 use Rattle.grammar.specs.Result.{Why, plain, number, beyond, Res, got, bad, expect}
 use Rattle.grammar.specs.Reader.{closedList, callArgument, builtinArgument}
 use Rattle.grammar.specs.Records.{typeOf}
-use Rattle.grammar.specs.PlainLength.{bytesOf, measured}
 use Rattle.statements.specs.declared.item.Tally.{Tally}
 use Rattle.statements.specs.declared.item.Statement.{Statement}
 use Rattle.statements.specs.declared.item.Lone.{Lone}
@@ -23,28 +22,28 @@ use Rattle.statements.specs.declared.item.Item.{Item}
 use Rattle.statements.specs.declared.item.Item.the-variants as item
 use Rattle.statements.specs.declared.list.ArgList.{ArgList}
 use Rattle.statements.specs.declared.list.ArgList.the-variants as lists
-use Rattle.statements.specs.Answers.{partBytes, ListRead}
+use Rattle.statements.specs.Answers.{ListRead}
 
 -- ---- reading
 
-abbrev pub lone : ℕ → ℕ → ℕ → ℕ → Bool → Item
-lone ty end place bytes counts = item.One (record { ty = ty; end = end; place = place; bytes = bytes; plain = counts })
+abbrev pub lone : ℕ → ℕ → ℕ → Item
+lone ty end place = item.One (record { ty = ty; end = end; place = place })
 
 -- a name between two signs, the opening one at p, by the kinds of the two tokens behind it
 abbrev pub enclosedItem : ℕ → ℕ → ℕ → ℕ → ℕ → ℕ → Item
 enclosedItem wrong close ty p k l =
-    cond (eqb k Ident) (cond (eqb l close) (lone ty (p + 3) (p + 1) 0 false) (item.Refused 1 (p + 2))) (item.Refused wrong (p + 1))
+    cond (eqb k Ident) (cond (eqb l close) (lone ty (p + 3) (p + 1)) (item.Refused 1 (p + 2))) (item.Refused wrong (p + 1))
 
 -- the opcode `byte` at p, by the kind and the text of the token behind it
 abbrev pub opcodeItem : Bool → ℕ → ℕ → ℕ → List ℕ → Item
 opcodeItem takes p byte k literal =
     cond (takes && isValuePush byte)
-    (cond (eqb k Literal) (cond (fits byte literal) (item.Push (pushSize byte)) (item.Refused 4 (p + 2))) (item.Refused 4 (p + 1)))
-    (lone 2 (p + 1) p 1 true)
+    (cond (eqb k Literal) (cond (fits byte literal) item.Push (item.Refused 4 (p + 2))) (item.Refused 4 (p + 1)))
+    (lone 2 (p + 1) p)
 
 -- an Ident at p, by the kind of the token behind it
 abbrev pub identItem : ℕ → ℕ → Item
-identItem p k = cond (eqb k OpenParen) item.Call (lone 3 (p + 1) p 3 true)
+identItem p k = cond (eqb k OpenParen) item.Call (lone 3 (p + 1) p)
 
 -- x is the statement of the reading `read` from p
 pub record OneRead (p size : ℕ) (read : Res (List Simple)) (x : Lone) : Type 0 where
@@ -60,16 +59,11 @@ pub record OneRead (p size : ℕ) (read : Res (List Simple)) (x : Lone) : Type 0
   pub place : what .place ≡ x .place
   pub near : x .place ≤ x .end
   pub args : what .args ≡ []
-  pub bytes : bytesOf (what .sort) 0 (what .token) ≡ x .bytes
-  pub few : x .bytes ≤ 33 * tokens
-  pub plain : measured (what .sort) ≡ x .plain
 
--- a push at p that takes n bytes, and its literal
-pub record PushRead (takes : Bool) (p size : ℕ) (all : List Token) (read : Res (List Simple)) (n : ℕ) : Type 0 where
+-- a push at p and its literal
+pub record PushRead (p size : ℕ) (all : List Token) (read : Res (List Simple)) : Type 0 where
   pub is : read ≡ got (single anOpcode p (tokenAt all p) ∷ single aLiteral (suc p) (tokenAt all (suc p)) ∷ []) 2
   pub inside : p + 2 ≤ size
-  pub bytes : partBytes takes (single anOpcode p (tokenAt all p) ∷ single aLiteral (suc p) (tokenAt all (suc p)) ∷ []) ≡ n + 1
-  pub few : n ≤ 32
 
 -- a name or a builtin at p, as the list behind it is read
 abbrev pub withList : Sort → ℕ → Token → Res (List Argument) → Res (List Simple)
@@ -85,14 +79,14 @@ pub record RefusedRead {A : Type 0} (read : Res A) (c q : ℕ) : Type 0 where
   pub cursor : q ≡ place + beyond why
 
 -- what the reader of one item promises of the reading `read` from p, of a kept list of this size whose tokens are `all`
-abbrev pub ItemRead : Bool → ℕ → ℕ → List Token → Res (List Simple) → Item → Type 0
-ItemRead takes p size all read (item.One x) = OneRead p size read x
-ItemRead takes p size all read (item.Push n) = PushRead takes p size all read n
-ItemRead takes p size all read item.Call =
+abbrev pub ItemRead : ℕ → ℕ → List Token → Res (List Simple) → Item → Type 0
+ItemRead p size all read (item.One x) = OneRead p size read x
+ItemRead p size all read item.Push = PushRead p size all read
+ItemRead p size all read item.Call =
     (p < size) × (read ≡ withList anInvocation p (tokenAt all p) (expect OpenParen (plain 1) (λ o. closedList callArgument) (p + 1) (drop (p + 1) all)))
-ItemRead takes p size all read item.Builtin =
+ItemRead p size all read item.Builtin =
     (p < size) × (read ≡ withList aBuiltin p (tokenAt all p) (expect OpenParen (plain 1) (λ o. closedList builtinArgument) (p + 1) (drop (p + 1) all)))
-ItemRead takes p size all read (item.Refused c q) = RefusedRead read c q
+ItemRead p size all read (item.Refused c q) = RefusedRead read c q
 
 -- ---- writing
 
@@ -117,13 +111,12 @@ pub record Small (s : Tally) (i a e n p : ℕ) : Type 0 where
   pub place : p ≤ 65536
 
 -- one statement further
-abbrev pub further : Tally → ℕ → ℕ → ℕ → Bool → Tally
-further s end arguments bytes counts =
-    record { at = end; statements = s .statements + 1; arguments = arguments; bytes = s .bytes + bytes; plain = s .plain && counts }
+abbrev pub further : Tally → ℕ → ℕ → Tally
+further s end arguments = record { at = end; statements = s .statements + 1; arguments = arguments }
 
 -- a list's record of the statement at s.at, and the tally behind it
 abbrev pub calledItems : Tally → ArgList → Items
-calledItems s (lists.Done m e) = items.Done (further s e m 0 false)
+calledItems s (lists.Done m e) = items.Done (further s e m)
 calledItems s (lists.Refused c q) = items.Refused c q
 
 abbrev pub calledTable : List ℕ → Tally → ℕ → ℕ → ℕ → ArgList → List ℕ → Type 0
@@ -145,14 +138,9 @@ abbrev pub listInside : Tally → ArgList → Type 0
 listInside s (lists.Done m e) = (s .arguments ≤ m) × (m ≤ 65536) × (e ≤ 65536)
 listInside s (lists.Refused c q) = Unit {0}
 
--- one statement of its own, and the tally behind it
-pub record LoneSmall (s : Tally) (i a : ℕ) (x : Lone) : Type 0 where
-  pub small : Small s i a (x .end) 0 (x .place)
-  pub before : s .bytes ≤ 4194304
-  pub own : x .bytes ≤ 4194304
-
+-- one statement of its own: the tally behind it, and its record
 abbrev pub loneBehind : Tally → Lone → Tally
-loneBehind s x = further s (x .end) (s .arguments) (x .bytes) (x .plain)
+loneBehind s x = further s (x .end) (s .arguments)
 
 abbrev pub lonePut : List ℕ → Tally → ℕ → ℕ → Lone → List ℕ
 lonePut st s i a x = put 8 st (s .statements) (simpleWords s i a (x .ty) (x .end) 0 (x .place))
@@ -161,13 +149,13 @@ pub record OnePut (st : List ℕ) (s : Tally) (i a : ℕ) (x : Lone) (t : Tally)
   pub is : t ≡ loneBehind s x
   pub table : st′ ≡ lonePut st s i a x
 
--- a push at s.at that takes n bytes, and its literal behind it
+-- a push at s.at and its literal behind it
 abbrev pub pushOpcode : Tally → Lone
-pushOpcode s = record { ty = 2; end = s .at + 1; place = s .at; bytes = 1; plain = true }
+pushOpcode s = record { ty = 2; end = s .at + 1; place = s .at }
 
-abbrev pub pushLiteral : Tally → ℕ → Lone
-pushLiteral s n = record { ty = 1; end = s .at + 1 + 1; place = s .at + 1; bytes = n; plain = true }
+abbrev pub pushLiteral : Tally → Lone
+pushLiteral s = record { ty = 1; end = s .at + 1 + 1; place = s .at + 1 }
 
-pub record PushPut (st : List ℕ) (s : Tally) (i a n : ℕ) (t : Tally) (st′ : List ℕ) : Type 0 where
-  pub is : t ≡ loneBehind (loneBehind s (pushOpcode s)) (pushLiteral s n)
-  pub table : st′ ≡ lonePut (lonePut st s i a (pushOpcode s)) (loneBehind s (pushOpcode s)) i a (pushLiteral s n)
+pub record PushPut (st : List ℕ) (s : Tally) (i a : ℕ) (t : Tally) (st′ : List ℕ) : Type 0 where
+  pub is : t ≡ loneBehind (loneBehind s (pushOpcode s)) (pushLiteral s)
+  pub table : st′ ≡ lonePut (lonePut st s i a (pushOpcode s)) (loneBehind s (pushOpcode s)) i a (pushLiteral s)

@@ -11,9 +11,9 @@ use Rattle.statements.specs.declared.item.Tally.{Tally}
 use Rattle.statements.specs.declared.item.Items.{Items}
 use Rattle.statements.specs.declared.item.Items.the-variants.{Done, Refused}
 
--- n tokens further, with m records and b bytes that are counted already
-abbrev pub skipped : Tally → ℕ → ℕ → ℕ → Tally
-skipped s n m b = record { at = s .at + n; statements = s .statements + m; arguments = s .arguments; bytes = s .bytes + b; plain = s .plain }
+-- n tokens further, with m records that are counted already
+abbrev pub skipped : Tally → ℕ → ℕ → Tally
+skipped s n m = record { at = s .at + n; statements = s .statements + m; arguments = s .arguments }
 
 -- the words of the label at s.at whose items end at t
 abbrev pub labelWords : Tally → ℕ → ℕ → Tally → List ℕ
@@ -36,9 +36,9 @@ LabelInside s (Refused c q) = Unit {0}
 
 -- the body's brace behind what was read
 abbrev pub closed : List ℕ → List ℕ → Items → Items
-closed words kept (Done t) = cond (eqb (kindAt words kept (t .at)) CloseBrace) (Done (skipped t 1 0 0)) (Refused 5 (t .at))
+closed words kept (Done t) = cond (eqb (kindAt words kept (t .at)) CloseBrace) (Done (skipped t 1 0)) (Refused 5 (t .at))
 closed words kept (Refused c q) = Refused c q
 
 abbrev pub ClosedInside : Items → Type 0
-ClosedInside (Done t) = (t .at ≤ 65536) × (t .statements ≤ 65536) × (t .bytes ≤ 4194304)
+ClosedInside (Done t) = (t .at ≤ 65536) × (t .statements ≤ 65536)
 ClosedInside (Refused c q) = Unit {0}

@@ -2,5 +2,6 @@
 pub mod Answers
 pub mod Item
 pub mod Label
+pub mod Length
 pub mod Call
 pub mod Settled

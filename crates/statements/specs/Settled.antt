@@ -9,29 +9,24 @@ use Rattle.tokens.specs.Table.{clearedBehind}
 use Rattle.tokens.specs.Token.{view}
 use Rattle.grammar.specs.Rules.{base}
 use Rattle.grammar.specs.Reader.{bodyAt}
-use Rattle.grammar.specs.Reading.{NONE}
 use Rattle.grammar.specs.Records.{statementRecords, argumentRecords}
-use Rattle.statements.specs.declared.item.Tally.{Tally}
 use Rattle.statements.specs.declared.item.Items.{Items}
 use Rattle.statements.specs.declared.item.Items.the-variants as items
 use Rattle.statements.specs.declared.entry.Body.{Body}
 use Rattle.statements.specs.declared.entry.Body.the-variants.{Refused, StatementsTooSmall, ArgumentsTooSmall, Read}
 use Rattle.statements.specs.Call.{values, afterReading, recordsOf, tableAfter}
 
-abbrev pub lengthOf : Tally → ℕ
-lengthOf t = cond (t .plain) (t .bytes) NONE
-
--- the answer for what was read, where the tables have so many words
-abbrev pub settledItems : Items → ℕ → ℕ → Body
-settledItems (items.Refused c q) statements arguments = Refused c q
-settledItems (items.Done t) statements arguments =
+-- the answer for what was read, where the plain length is `long` and the tables have so many words
+abbrev pub settledItems : Items → ℕ → ℕ → ℕ → Body
+settledItems (items.Refused c q) long statements arguments = Refused c q
+settledItems (items.Done t) long statements arguments =
     cond (ltb (statements / 8) (t .statements)) (StatementsTooSmall (t .statements))
     (cond (ltb (arguments / 7) (t .arguments)) (ArgumentsTooSmall (t .arguments))
-    (Read (t .at) (t .statements) (t .arguments) (lengthOf t)))
+    (Read (t .at) (t .statements) (t .arguments) long))
 
 -- what was read, settled: the answer, and each table, in which the records that the answer counts stay, none after a refusal, and zeros stand behind them
-pub record Settled (read : Items) (statements arguments : List ℕ) (r : Body) (statements′ arguments′ : List ℕ) : Type 0 where
-  pub answer : r ≡ settledItems read (length statements) (length arguments)
+pub record Settled (read : Items) (long : ℕ) (statements arguments : List ℕ) (r : Body) (statements′ arguments′ : List ℕ) : Type 0 where
+  pub answer : r ≡ settledItems read long (length statements) (length arguments)
   pub statementTable : statements′ ≡ clearedBehind 8 (getD (values r) 2 0) statements
   pub argumentTable : arguments′ ≡ clearedBehind 7 (getD (values r) 3 0) arguments
 

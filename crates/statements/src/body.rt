@@ -30,7 +30,7 @@ pub fn parse_items(
     a: usize,
 ) -> Items
     requires { ⌜ Counting (now tokens) (now kept) s i a ⌝ }
-    ensures { λ r. ⌜ SimpleParsed takes s i a (length (now (kept .entry)))
+    ensures { λ r. ⌜ SimpleParsed s i a (length (now (kept .entry)))
         (flattened (items takes wrong (s .at) (tokensFrom (now (text .entry)) (now (tokens .entry)) (now (kept .entry)) (s .at))))
         (now (statements .entry)) (now (arguments .entry)) r (now (statements .exit)) (now (arguments .exit)) ⌝ }
 {
@@ -67,17 +67,15 @@ pub fn parse_items(
     }
 }
 
-// The tally n tokens further, with m records and b bytes that are counted already.
-fn skip(s: Tally, n: usize, m: usize, b: usize) -> Tally
-    requires { ⌜ (s .at ≤ 65536) × (s .statements ≤ 65536) × (s .bytes ≤ 4194304) × (n ≤ 2) × (m ≤ 1) × (b ≤ 1) ⌝ }
-    ensures { λ r. ⌜ r ≡ skipped s n m b ⌝ }
+// The tally n tokens further, with m records that are counted already.
+fn skip(s: Tally, n: usize, m: usize) -> Tally
+    requires { ⌜ (s .at ≤ 65536) × (s .statements ≤ 65536) × (n ≤ 2) × (m ≤ 1) ⌝ }
+    ensures { λ r. ⌜ r ≡ skipped s n m ⌝ }
 {
     Tally {
         at: s.at + n,
         statements: s.statements + m,
         arguments: s.arguments,
-        bytes: s.bytes + b,
-        plain: s.plain,
     }
 }
 
@@ -145,7 +143,7 @@ pub fn parse_label(
         kept,
         false,
         6,
-        skip(s, 2, 1, 1),
+        skip(s, 2, 1),
         statements,
         arguments,
         i,
@@ -199,7 +197,7 @@ fn close(tokens: &[u32], kept: &[u32], r: Items) -> Items
             if kind_at(tokens, kept, at) != 30 {
                 return Items::Refused(5, at);
             }
-            Items::Done(skip(t, 1, 0, 0))
+            Items::Done(skip(t, 1, 0))
         }
         Items::Refused(c, q) => Items::Refused(c, q),
     }
@@ -231,7 +229,7 @@ pub fn parse_body(
         kept,
         true,
         5,
-        skip(s, 1, 0, 0),
+        skip(s, 1, 0),
         statements,
         arguments,
         i,

@@ -2,15 +2,18 @@
 use crate::body::parse_body;
 use crate::item::Items;
 use crate::item::Tally;
+use crate::length::plain_length;
 use tokens::Door;
 use tokens::clear;
 use tokens::clear_behind;
 use tokens::prepare;
 ghost use mathlib.Core.Path.{_≡_};
 ghost use lib.ListN.{length, replicate};
+ghost use Rattle.tokens.specs.Token.{view};
 ghost use Rattle.statements.specs.Answers.{Place};
+ghost use Rattle.statements.specs.Length.{lengthFrom};
 ghost use Rattle.statements.specs.Call.{BodyCall};
-ghost use Rattle.statements.specs.Settled.{lengthOf, Settled, BodyRead};
+ghost use Rattle.statements.specs.Settled.{Settled, BodyRead};
 
 // What a body call answers.
 pub enum Body {
@@ -27,13 +30,6 @@ pub enum Body {
     Read(usize, usize, usize, usize),
 }
 
-// The plain length: the bytes where all statements have a length, else NONE.
-fn plain_length(t: Tally) -> usize
-    ensures { λ r. ⌜ r ≡ lengthOf t ⌝ }
-{
-    if t.plain { t.bytes } else { 4294967295 }
-}
-
 // Both tables zero: no records.
 fn clear_both(statements: &mut [u32], arguments: &mut [u32])
     ensures { λ _. ⌜ (now (statements .exit) ≡ replicate (length (now (statements .entry))) 0) × (now (arguments .exit) ≡ replicate (length (now (arguments .entry))) 0) ⌝ }
@@ -44,8 +40,17 @@ fn clear_both(statements: &mut [u32], arguments: &mut [u32])
 
 // The answer for what was read: only input that is otherwise accepted has a table called small. After every refusal both tables are zero, and else what stands
 // behind the records; what is in front was written with them, so it need not be cleared before.
-fn settle(read: Items, statements: &mut [u32], arguments: &mut [u32]) -> Body
-    ensures { λ r. ⌜ Settled read (now (statements .entry)) (now (arguments .entry)) r (now (statements .exit)) (now (arguments .exit)) ⌝ }
+fn settle(
+    text: &[u8],
+    tokens: &[u32],
+    kept: &[u32],
+    start: usize,
+    read: Items,
+    statements: &mut [u32],
+    arguments: &mut [u32],
+) -> Body
+    requires { ⌜ Place (now tokens) (now kept) start ⌝ }
+    ensures { λ r. ⌜ Settled read (lengthFrom (view (now (text .entry)) (now (tokens .entry)) (now (kept .entry))) start) (now (statements .entry)) (now (arguments .entry)) r (now (statements .exit)) (now (arguments .exit)) ⌝ }
 {
     match read {
         Items::Refused(c, q) => {
@@ -65,7 +70,7 @@ fn settle(read: Items, statements: &mut [u32], arguments: &mut [u32]) -> Body
             }
             clear_behind(statements, m, 8);
             clear_behind(arguments, n, 7);
-            Body::Read(t.at, m, n, plain_length(t))
+            Body::Read(t.at, m, n, plain_length(text, tokens, kept, start))
         }
     }
 }
@@ -86,11 +91,9 @@ fn reading(
         at: start,
         statements: 0,
         arguments: 0,
-        bytes: 0,
-        plain: true,
     };
     let read = parse_body(text, tokens, kept, s, statements, arguments, 0, 0);
-    settle(read, statements, arguments)
+    settle(text, tokens, kept, start, read, statements, arguments)
 }
 
 // Reads one body from place `start` of the kept tokens. Everything lent is tested first; only then the kept list is written, and the tables.

@@ -6,9 +6,7 @@ use tokens::extra_at;
 use tokens::is_value_push;
 use tokens::kind_at;
 use tokens::push_overflows;
-use tokens::push_size;
 use tokens::put_record;
-use tokens::significant_bytes;
 use tokens::text_at;
 ghost use Prim.Native.Nat.{_+_, _≤_, _<_};
 ghost use mathlib.Core.Path.{_≡_};
@@ -19,15 +17,13 @@ ghost use Rattle.tokens.specs.Table.{put};
 ghost use Rattle.grammar.specs.Result.{plain, expect};
 ghost use Rattle.grammar.specs.Reader.{closedList, item};
 ghost use Rattle.statements.specs.Answers.{Place, Counting, SimpleParsed, one, tokensFrom};
-ghost use Rattle.statements.specs.Item.{statementWords, simpleWords, further, Small, enclosedItem, opcodeItem, identItem, ItemRead, OnePut, PushPut, CalledPut, ListPut, listInside, LoneSmall};
+ghost use Rattle.statements.specs.Item.{statementWords, simpleWords, further, Small, enclosedItem, opcodeItem, identItem, ItemRead, OnePut, PushPut, CalledPut, ListPut, listInside};
 
-// How far the reading is: the next place, the records written so far, and the bytes of the statements so far, which count while all of them have a length.
+// How far the reading is: the next place, and the records written so far.
 pub struct Tally {
     pub at: usize,
     pub statements: usize,
     pub arguments: usize,
-    pub bytes: usize,
-    pub plain: bool,
 }
 
 // The tally behind what was read; or a refusal's number and cursor.
@@ -48,20 +44,18 @@ pub struct Statement {
     pub place: u32,
 }
 
-// A statement without arguments as it is read: its type, the place behind it, that of its name or value, its bytes, and whether it has a length.
+// A statement without arguments as it is read: its type, the place behind it, and that of its name or value.
 pub struct Lone {
     pub ty: u32,
     pub end: usize,
     pub place: usize,
-    pub bytes: usize,
-    pub plain: bool,
 }
 
-// What stands at a place: one statement; a value push, taking so many bytes, with its literal; a name with a call list behind it; a builtin, whose list
+// What stands at a place: one statement; a value push with its literal; a name with a call list behind it; a builtin, whose list
 // has yet to be looked at; or a refusal's number and cursor.
 pub enum Item {
     One(Lone),
-    Push(usize),
+    Push,
     Call,
     Builtin,
     Refused(u32, usize),
@@ -84,8 +78,6 @@ fn enclosed(tokens: &[u32], kept: &[u32], p: usize, wrong: u32, close: u32, ty: 
         ty: ty,
         end: p + 3,
         place: p + 1,
-        bytes: 0,
-        plain: false,
     })
 }
 
@@ -115,8 +107,6 @@ fn opcode_item(text: &[u8], tokens: &[u32], kept: &[u32], takes: bool, p: usize)
             ty: 2,
             end: p + 1,
             place: p,
-            bytes: 1,
-            plain: true,
         });
     }
     let byte = extra_at(tokens, kept, p);
@@ -125,8 +115,6 @@ fn opcode_item(text: &[u8], tokens: &[u32], kept: &[u32], takes: bool, p: usize)
             ty: 2,
             end: p + 1,
             place: p,
-            bytes: 1,
-            plain: true,
         });
     }
     if kind_at(tokens, kept, p + 1) != 40 {
@@ -135,7 +123,7 @@ fn opcode_item(text: &[u8], tokens: &[u32], kept: &[u32], takes: bool, p: usize)
     if push_overflows(byte, text_at(text, tokens, kept, p + 1)) {
         return Item::Refused(4, p + 2);
     }
-    Item::Push(push_size(byte))
+    Item::Push
 }
 
 // The Ident at p: a call if a `(` stands behind it, else a label call.
@@ -150,8 +138,6 @@ fn ident_item(tokens: &[u32], kept: &[u32], p: usize) -> Item
         ty: 3,
         end: p + 1,
         place: p,
-        bytes: 3,
-        plain: true,
     })
 }
 
@@ -167,18 +153,15 @@ fn one_item(
 ) -> Item
     requires { ⌜ Place (now tokens) (now kept) p ⌝ }
     requires { ⌜ KindAt (now tokens) (now kept) p k ⌝ }
-    ensures { λ r. ⌜ ItemRead takes p (length (now (kept .entry))) (view (now (text .entry)) (now (tokens .entry)) (now (kept .entry)))
+    ensures { λ r. ⌜ ItemRead p (length (now (kept .entry))) (view (now (text .entry)) (now (tokens .entry)) (now (kept .entry)))
         (item takes wrong p (tokensFrom (now (text .entry)) (now (tokens .entry)) (now (kept .entry)) p)) r ⌝ }
 {
     match k {
         40 => {
-            let n = significant_bytes(text_at(text, tokens, kept, p));
             Item::One(Lone {
                 ty: 1,
                 end: p + 1,
                 place: p,
-                bytes: n + 1,
-                plain: true,
             })
         }
         41 => opcode_item(text, tokens, kept, takes, p),
@@ -193,25 +176,14 @@ fn one_item(
 // ---- writing
 
 // The tally behind a statement that ends at `end`.
-fn moved(s: Tally, end: usize, arguments: usize, bytes: usize, plain: bool) -> Tally
-    requires { ⌜ (s .statements ≤ 65536) × (s .bytes ≤ 4194304) × (bytes ≤ 4194304) ⌝ }
-    ensures { λ r. ⌜ r ≡ further s end arguments bytes plain ⌝ }
+fn moved(s: Tally, end: usize, arguments: usize) -> Tally
+    requires { ⌜ s .statements ≤ 65536 ⌝ }
+    ensures { λ r. ⌜ r ≡ further s end arguments ⌝ }
 {
-    if s.plain {
-        return Tally {
-            at: end,
-            statements: s.statements + 1,
-            arguments: arguments,
-            bytes: s.bytes + bytes,
-            plain: plain,
-        };
-    }
     Tally {
         at: end,
         statements: s.statements + 1,
         arguments: arguments,
-        bytes: s.bytes + bytes,
-        plain: false,
     }
 }
 
@@ -264,19 +236,18 @@ fn put_simple(
 
 // One statement, and the tally behind it.
 fn put_one(statements: &mut [u32], s: Tally, i: usize, a: usize, x: Lone) -> Tally
-    requires { ⌜ LoneSmall s i a x ⌝ }
+    requires { ⌜ Small s i a (x .end) 0 (x .place) ⌝ }
     ensures { λ r. ⌜ OnePut (now (statements .entry)) s i a x r (now (statements .exit)) ⌝ }
 {
     let ty = x.ty;
     let end = x.end;
     put_simple(statements, s, i, a, ty, end, 0, x.place);
-    moved(s, end, s.arguments, x.bytes, x.plain)
+    moved(s, end, s.arguments)
 }
 
 // A statement with the list of arguments behind it, which is read already; or the list's refusal.
 fn put_called(statements: &mut [u32], s: Tally, i: usize, a: usize, ty: u32, list: ArgList) -> Items
     requires { ⌜ Small s i a 0 0 0 ⌝ }
-    requires { ⌜ s .bytes ≤ 4194304 ⌝ }
     requires { ⌜ listInside s list ⌝ }
     ensures { λ r. ⌜ CalledPut (now (statements .entry)) s i a ty list r (now (statements .exit)) ⌝ }
 {
@@ -285,25 +256,23 @@ fn put_called(statements: &mut [u32], s: Tally, i: usize, a: usize, ty: u32, lis
             let at = s.at;
             let own = m - s.arguments;
             put_simple(statements, s, i, a, ty, e, own, at);
-            Items::Done(moved(s, e, m, 0, false))
+            Items::Done(moved(s, e, m))
         }
         ArgList::Refused(c, q) => Items::Refused(c, q),
     }
 }
 
-// A value push at s.at with its literal: two statements. The literal's bytes are the push's.
-fn put_push(statements: &mut [u32], s: Tally, i: usize, a: usize, n: usize) -> Tally
+// A value push at s.at with its literal: two statements.
+fn put_push(statements: &mut [u32], s: Tally, i: usize, a: usize) -> Tally
     requires { ⌜ Small s i a 0 0 0 ⌝ }
-    requires { ⌜ (s .at + 2 ≤ 65536) × (s .statements ≤ s .at) × (s .bytes ≤ 4194000) × (n ≤ 32) ⌝ }
-    ensures { λ r. ⌜ PushPut (now (statements .entry)) s i a n r (now (statements .exit)) ⌝ }
+    requires { ⌜ (s .at + 2 ≤ 65536) × (s .statements ≤ s .at) ⌝ }
+    ensures { λ r. ⌜ PushPut (now (statements .entry)) s i a r (now (statements .exit)) ⌝ }
 {
     let p = s.at + 1;
     let opcode = Lone {
         ty: 2,
         end: p,
         place: s.at,
-        bytes: 1,
-        plain: true,
     };
     let t = put_one(statements, s, i, a, opcode);
     let end = p + 1;
@@ -311,8 +280,6 @@ fn put_push(statements: &mut [u32], s: Tally, i: usize, a: usize, n: usize) -> T
         ty: 1,
         end: end,
         place: p,
-        bytes: n,
-        plain: true,
     };
     put_one(statements, t, i, a, literal)
 }
@@ -359,14 +326,14 @@ pub fn parse_item(
 ) -> Items
     requires { ⌜ Counting (now tokens) (now kept) s i a ⌝ }
     requires { ⌜ KindAt (now tokens) (now kept) (s .at) k ⌝ }
-    ensures { λ r. ⌜ SimpleParsed takes s i a (length (now (kept .entry)))
+    ensures { λ r. ⌜ SimpleParsed s i a (length (now (kept .entry)))
         (item takes wrong (s .at) (tokensFrom (now (text .entry)) (now (tokens .entry)) (now (kept .entry)) (s .at)))
         (now (statements .entry)) (now (arguments .entry)) r (now (statements .exit)) (now (arguments .exit)) ⌝ }
 {
     let at = s.at;
     match one_item(text, tokens, kept, takes, wrong, at, k) {
         Item::One(x) => Items::Done(put_one(statements, s, i, a, x)),
-        Item::Push(bytes) => Items::Done(put_push(statements, s, i, a, bytes)),
+        Item::Push => Items::Done(put_push(statements, s, i, a)),
         Item::Call => parse_called(
             text,
             tokens,

@@ -3,6 +3,7 @@ pub mod argument;
 pub mod body;
 pub mod entry;
 pub mod item;
+mod length;
 pub mod list;
 pub mod single;
 

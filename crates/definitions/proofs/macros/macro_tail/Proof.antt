@@ -17,7 +17,7 @@ enum-known-takes c = search needs
 parse-body-requires : tie.Need-parse-body-requires
 parse-body-requires c κs =
     let h = rw (c .before .before .before .takes .given .1) at (c .before .before .before .before .before .macro-numbers .ensures .within) in
-    record { numbered = c .before .before .before .before .before .before .before .before .before .before .before .before .pre .0 .numbered; few = c .before .before .before .before .before .before .before .before .before .before .before .before .pre .0 .few; inside = h .1; statements = omega arith; arguments = omega (arith, c .before .before .before .before .before .before .before .before .before .before .before .before .pre .1 .1); bytes = omega arith; statementsBefore = c .before .before .before .before .before .before .before .before .before .before .before .before .pre .0 .statementsBefore; argumentsBefore = c .before .before .before .before .before .before .before .before .before .before .before .before .pre .0 .argumentsBefore }
+    record { numbered = c .before .before .before .before .before .before .before .before .before .before .before .before .pre .0 .numbered; few = c .before .before .before .before .before .before .before .before .before .before .before .before .pre .0 .few; inside = h .1; statements = omega arith; arguments = omega (arith, c .before .before .before .before .before .before .before .before .before .before .before .before .pre .1 .1); statementsBefore = c .before .before .before .before .before .before .before .before .before .before .before .before .pre .0 .statementsBefore; argumentsBefore = c .before .before .before .before .before .before .before .before .before .before .before .before .pre .0 .argumentsBefore }
 
 enum-known-d : tie.Need-enum-known-d
 enum-known-d c = search needs

@@ -30,7 +30,7 @@ parse-items-requires : tie.Need-parse-items-requires
 parse-items-requires c κs =
     let a = c .before .before .before .before .before .before .before .before .before .before .args in
     let there = kind-inside (now (a .tokens)) (now (a .kept)) (a .s .at) 29 (sym (c .before .before .before .before .kind-at .ensures .is) ∙ c .before .before .before .if1 .left) (omega arith) in
-    rw (c .before .before .skip .ensures) (counting-skip 1 0 0 (c .before .before .before .before .before .before .before .before .before .before .pre) (omega arith) (omega arith) (omega arith))
+    rw (c .before .before .skip .ensures) (counting-skip 1 0 (c .before .before .before .before .before .before .before .before .before .before .pre) (omega arith) (omega arith))
 
 enum-known-t : tie.Need-enum-known-t
 enum-known-t c = search needs
@@ -40,14 +40,14 @@ parse-groups-requires c κs =
     let a = c .before .before .before .before .before .before .before .before .before .before .before .before .before .before .before .before .before .before .before .before .args in
     let there = kind-inside (now (a .tokens)) (now (a .kept)) (a .s .at) 29 (sym (c .before .before .before .before .before .before .before .before .before .before .before .before .before .before .kind-at .ensures .is) ∙ c .before .before .before .before .before .before .before .before .before .before .before .before .before .if1 .left) (omega arith) in
     let v = rw (c .before .before .before .before .before .before .before .before .before .before .before .before .skip .ensures, c .before .before .before .t .given .1) at (c .before .before .before .before .before .before .before .before .before .parse-items .ensures) in
-    counting-next {s = skipped (a .s) 1 0 0} (counting-skip 1 0 0 (c .before .before .before .before .before .before .before .before .before .before .before .before .before .before .before .before .before .before .before .before .pre) (omega arith) (omega arith) (omega arith)) (v .within)
+    counting-next {s = skipped (a .s) 1 0} (counting-skip 1 0 (c .before .before .before .before .before .before .before .before .before .before .before .before .before .before .before .before .before .before .before .before .pre) (omega arith) (omega arith)) (v .within)
 
 close-requires : tie.Need-close-requires
 close-requires c κs =
     let a = c .before .before .before .before .before .before .before .before .before .before .before .before .before .before .before .before .before .before .before .before .before .before .before .before .before .args in
     let there = kind-inside (now (a .tokens)) (now (a .kept)) (a .s .at) 29 (sym (c .before .before .before .before .before .before .before .before .before .before .before .before .before .before .before .before .before .before .before .kind-at .ensures .is) ∙ c .before .before .before .before .before .before .before .before .before .before .before .before .before .before .before .before .before .before .if1 .left) (omega arith) in
     let v = rw (c .before .before .before .before .before .before .before .before .before .before .before .before .before .before .before .before .before .skip .ensures, c .before .before .before .before .before .before .before .before .t .given .1) at (c .before .before .before .before .before .before .before .before .before .before .before .before .before .before .parse-items .ensures) in
-    let h : Counting (now (a .tokens)) (now (a .kept)) (c .before .before .before .before .before .before .before .before .t .given .0 .0) (a .i) (a .a) = counting-next {s = skipped (a .s) 1 0 0} (counting-skip 1 0 0 (c .before .before .before .before .before .before .before .before .before .before .before .before .before .before .before .before .before .before .before .before .before .before .before .before .before .pre) (omega arith) (omega arith) (omega arith)) (v .within) in
+    let h : Counting (now (a .tokens)) (now (a .kept)) (c .before .before .before .before .before .before .before .before .t .given .0 .0) (a .i) (a .a) = counting-next {s = skipped (a .s) 1 0} (counting-skip 1 0 (c .before .before .before .before .before .before .before .before .before .before .before .before .before .before .before .before .before .before .before .before .before .before .before .before .before .pre) (omega arith) (omega arith)) (v .within) in
     (h .numbered, closed-inside (c .before .before .before .before .parse-groups .result) h (c .before .before .before .before .parse-groups .ensures .within))
 
 enum-known-c : tie.Need-enum-known-c

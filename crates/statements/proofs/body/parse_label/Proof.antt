@@ -45,7 +45,7 @@ parse-items-requires : tie.Need-parse-items-requires
 parse-items-requires c κs =
     let a = c .before .before .before .before .before .before .before .before .before .before .before .before .args in
     let there = kind-inside (now (a .tokens)) (now (a .kept)) (a .s .at + 1) 36 (sym (c .before .before .before .before .kind-at2 .ensures .is) ∙ c .before .before .before .if2 .left) (omega arith) in
-    rw (c .before .before .skip .ensures) (counting-skip 2 1 1 (c .before .before .before .before .before .before .before .before .before .before .before .before .pre) (omega arith) (omega arith) (omega arith))
+    rw (c .before .before .skip .ensures) (counting-skip 2 1 (c .before .before .before .before .before .before .before .before .before .before .before .before .pre) (omega arith) (omega arith))
 
 put-label-requires : tie.Need-put-label-requires
 put-label-requires c κs =

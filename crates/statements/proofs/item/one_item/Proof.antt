@@ -1,11 +1,8 @@
 use Prim.Native.Nat.{_+_}
-use mathlib.Core.Path.{sym, ap, _∙_}
-use native.Mathlib.Omega.{arith}
+use mathlib.Core.Path.{sym, _∙_}
 use denote.Ref.{now}
 use lib.ListN.{length}
 use Rattle.tokens.specs.Token.{view}
-use Rattle.tokens.specs.Literal.{literalValue, significant}
-use Rattle.tokens.proofs.Value.{significant-between}
 use Rattle.tokens.proofs.ViewLaws.{view-kind, view-extra, view-text}
 use Rattle.statements.proofs.At.{kind-here}
 use Rattle.statements.proofs.ItemLaws.{literal-at, opcode-at, ident-at, constant-at, argument-at, builtin-at, other-at, view-inside}
@@ -13,17 +10,8 @@ use borrow.Author.Needs.{needs}
 use Rattle.statements.proofs.item.one_item.Statement.{statement}
 use Rattle.statements.proofs.item.one_item.Tie as tie
 
-text-at-requires : tie.Need-text-at-requires
-text-at-requires c κs = search needs
-
-significant-bytes-requires : tie.Need-significant-bytes-requires
-significant-bytes-requires c κs = search needs
-
-add-t11 : tie.Need-add-t11
-add-t11 c = search needs
-
-add-t12 : tie.Need-add-t12
-add-t12 c = omega (arith, significant-between (literalValue (now (c .before .text-at .result))), c .significant-bytes .ensures)
+add-t9 : tie.Need-add-t9
+add-t9 c = search needs
 
 opcode-item-requires : tie.Need-opcode-item-requires
 opcode-item-requires c κs = search needs
@@ -39,11 +27,11 @@ parse-arg-call-requires c κs = search needs
 
 returns : tie.Need-returns
 returns c =
-    let a = c .before .before .before .before .before .before .args in
+    let a = c .before .before .before .before .args in
     let text = now (a .text) in
     let words = now (a .tokens) in
     let kept = now (a .kept) in
-    literal-at (a .takes) (a .wrong) (a .p) (length kept) (view text words kept) (view-inside text words kept) _ (sym (kind-here text words kept (a .p) (c .before .before .before .before .before .before .pre .1)) ∙ c .before .before .match .keys1) (c .significant-bytes .ensures ∙ ap (λ l. significant (literalValue l)) (c .before .text-at .ensures ∙ sym (view-text text words kept (a .p))))
+    literal-at (a .takes) (a .wrong) (a .p) (length kept) (view text words kept) (view-inside text words kept) (sym (kind-here text words kept (a .p) (c .before .before .before .before .pre .1)) ∙ c .match .keys1)
 
 returns-2 : tie.Need-returns-2
 returns-2 c =
@@ -99,10 +87,7 @@ pub one-item-spec : {M : Type 1} → statement M
 one-item-spec =
     tie.close
     (tie.spec
-    text-at-requires
-    significant-bytes-requires
-    add-t11
-    add-t12
+    add-t9
     opcode-item-requires
     ident-item-requires
     parse-constant-push-requires

@@ -52,11 +52,8 @@ add-t18 c = search needs
 returns-4 : tie.Need-returns-4
 returns-4 c = rw (not-false (c .before .before .before .before .before .before .before .before .before .before .before .before .args .takes) (c .before .before .before .before .before .before .before .before .if1 .left), ← c .before .before .before .before .before .before .before .extra-at .ensures, said-yes (c .before .before .before .before .before .before .is-value-push .ensures) (c .before .before .before .before .before .if2 .left), test-yes (c .before .before .before .before .kind-at .ensures .is) (c .before .before .before .if3 .left), ← c .before .before .text-at .ensures, overflows (c .before .before .before .before .before .before .before .extra-at .result) (now (c .before .before .text-at .result)) (c .before .push-overflows .ensures) (c .if4 .taken))
 
-push-size-requires : tie.Need-push-size-requires
-push-size-requires c κs = search needs
-
 returns-5 : tie.Need-returns-5
-returns-5 c = rw (not-false (c .before .before .before .before .before .before .before .before .before .before .before .before .before .args .takes) (c .before .before .before .before .before .before .before .before .before .if1 .left), ← c .before .before .before .before .before .before .before .before .extra-at .ensures, said-yes (c .before .before .before .before .before .before .before .is-value-push .ensures) (c .before .before .before .before .before .before .if2 .left), test-yes (c .before .before .before .before .before .kind-at .ensures .is) (c .before .before .before .before .if3 .left), ← c .before .before .before .text-at .ensures, fits-well (c .before .before .before .before .before .before .before .before .extra-at .result) (now (c .before .before .before .text-at .result)) (c .before .before .push-overflows .ensures) (c .before .if4 .left), c .push-size .ensures)
+returns-5 c = rw (not-false (c .before .before .before .before .before .before .before .before .before .before .before .before .args .takes) (c .before .before .before .before .before .before .before .before .if1 .left), ← c .before .before .before .before .before .before .before .extra-at .ensures, said-yes (c .before .before .before .before .before .before .is-value-push .ensures) (c .before .before .before .before .before .if2 .left), test-yes (c .before .before .before .before .kind-at .ensures .is) (c .before .before .before .if3 .left), ← c .before .before .text-at .ensures, fits-well (c .before .before .before .before .before .before .before .extra-at .result) (now (c .before .before .text-at .result)) (c .before .push-overflows .ensures) (c .if4 .left))
 
 pub opcode-item-spec : {M : Type 1} → statement M
 opcode-item-spec =
@@ -77,5 +74,4 @@ opcode-item-spec =
     push-overflows-requires
     add-t18
     returns-4
-    push-size-requires
     returns-5)

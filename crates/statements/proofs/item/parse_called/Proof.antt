@@ -16,7 +16,7 @@ parse-args-requires c κs =
 put-called-requires : tie.Need-put-called-requires
 put-called-requires c κs =
     let g = c .before .before .before .before .before .before .before .before .before .before .before .pre .0 in
-    (record { at = omega arith; statements = omega arith; arguments = omega arith; statementsBefore = g .statementsBefore; argumentsBefore = g .argumentsBefore; end = omega arith; own = omega arith; place = omega arith }, (omega arith, listed-inside (c .before .before .before .before .before .before .before .before .before .before .before .args .s) _ (c .before .before .before .parse-args .ensures) (g .few) (omega arith)))
+    (record { at = omega arith; statements = omega arith; arguments = omega arith; statementsBefore = g .statementsBefore; argumentsBefore = g .argumentsBefore; end = omega arith; own = omega arith; place = omega arith }, listed-inside (c .before .before .before .before .before .before .before .before .before .before .before .args .s) _ (c .before .before .before .parse-args .ensures) (g .few) (omega arith))
 
 same-length : tie.Need-same-length
 same-length c = search needs

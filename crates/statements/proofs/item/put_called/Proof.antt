@@ -9,10 +9,10 @@ enum-known-list : tie.Need-enum-known-list
 enum-known-list c = search needs
 
 sub-own : tie.Need-sub-own
-sub-own c = let h = rw (c .before .before .list .given .1) at (c .before .before .before .before .before .pre .1 .1) in omega arith
+sub-own c = let h = rw (c .before .before .list .given .1) at (c .before .before .before .before .before .pre .1) in omega arith
 
 put-simple-requires : tie.Need-put-simple-requires
-put-simple-requires c κs = let h = rw (c .before .before .before .list .given .1) at (c .before .before .before .before .before .before .pre .1 .1) in search needs
+put-simple-requires c κs = let h = rw (c .before .before .before .list .given .1) at (c .before .before .before .before .before .before .pre .1) in search needs
 
 moved-requires : tie.Need-moved-requires
 moved-requires c κs = search needs

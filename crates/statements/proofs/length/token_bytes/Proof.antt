@@ -1,0 +1,72 @@
+use denote.Ref.{now}
+use mathlib.Core.Path.{sym, _∙_}
+use native.Mathlib.Numerals.{add-one}
+use native.Mathlib.Omega.{arith}
+use borrow.Author.Tests.{ne-eqb}
+use Rattle.tokens.specs.Literal.{literalValue}
+use Rattle.tokens.proofs.ViewLaws.{view-text}
+use Rattle.tokens.proofs.Value.{significant-between}
+use Rattle.statements.specs.Length.{tokenBytes}
+use Rattle.statements.proofs.At.{kind-here, test-yes, test-no}
+use borrow.Author.Needs.{needs}
+use Rattle.statements.proofs.length.token_bytes.Statement.{statement}
+use Rattle.statements.proofs.length.token_bytes.Tie as tie
+
+returns : tie.Need-returns
+unfolding tokenBytes
+returns c =
+    let a = c .before .before .before .before .before .args in
+    let here = kind-here (now (a .text)) (now (a .tokens)) (now (a .kept)) (a .p) (c .before .before .before .before .before .pre .1 .0) in
+    (rw (test-yes here (c .before .match .keys1), ne-eqb _ _ (c .if1 .taken)), omega (arith, c .before .before .before .before .before .pre .1 .1))
+
+text-at-requires : tie.Need-text-at-requires
+text-at-requires c κs = search needs
+
+significant-bytes-requires : tie.Need-significant-bytes-requires
+significant-bytes-requires c κs = search needs
+
+add-result : tie.Need-add-result
+add-result c = omega (arith, significant-between (literalValue (now (c .before .text-at .result))), c .significant-bytes .ensures)
+
+returns-2 : tie.Need-returns-2
+unfolding tokenBytes
+returns-2 c =
+    let a = c .before .before .before .before .before .before .before .args in
+    let here = kind-here (now (a .text)) (now (a .tokens)) (now (a .kept)) (a .p) (c .before .before .before .before .before .before .before .pre .1 .0) in
+    let text = view-text (now (a .text)) (now (a .tokens)) (now (a .kept)) (a .p) ∙ sym (c .before .text-at .ensures) in
+    (rw (test-yes here (c .before .before .before .match .keys1), c .before .before .if1 .left, text, c .significant-bytes .ensures, add-one), omega (arith, significant-between (literalValue (now (c .before .text-at .result))), c .significant-bytes .ensures))
+
+returns-3 : tie.Need-returns-3
+unfolding tokenBytes
+returns-3 c =
+    let a = c .before .before .before .before .args in
+    let here = kind-here (now (a .text)) (now (a .tokens)) (now (a .kept)) (a .p) (c .before .before .before .before .pre .1 .0) in
+    (rw (sym here ∙ c .match .keys2), omega arith)
+
+returns-4 : tie.Need-returns-4
+unfolding tokenBytes
+returns-4 c =
+    let a = c .before .before .before .before .args in
+    let here = kind-here (now (a .text)) (now (a .tokens)) (now (a .kept)) (a .p) (c .before .before .before .before .pre .1 .0) in
+    (rw (sym here ∙ c .match .keys3), omega arith)
+
+returns-5 : tie.Need-returns-5
+unfolding tokenBytes
+returns-5 c =
+    let a = c .before .before .before .before .args in
+    let here = kind-here (now (a .text)) (now (a .tokens)) (now (a .kept)) (a .p) (c .before .before .before .before .pre .1 .0) in
+    let no = c .match .rest in
+    (rw (test-no here (no .0 .0 .1), test-no here (no .0 .1), test-no here (no .1)), omega arith)
+
+pub token-bytes-spec : {M : Type 1} → statement M
+token-bytes-spec =
+    tie.close
+    (tie.spec
+    returns
+    text-at-requires
+    significant-bytes-requires
+    add-result
+    returns-2
+    returns-3
+    returns-4
+    returns-5)
