@@ -21,7 +21,7 @@ use Rattle.grammar.specs.Reader.{entries, closedList, nameArgument, items, grou
 use Rattle.grammar.specs.Typed.{singleNumber}
 use Rattle.grammar.specs.Records.{argumentRecord, allArguments, statementRecords, argumentRecords, statementCount, argumentCount}
 use Rattle.grammar.specs.FileReading.{MacroSort, theMacro, theFn, theTest, Form, aMacro, Definition}
-use Rattle.grammar.specs.FileReader.{optional, parseArgs, named, macroRest, parseMacro}
+use Rattle.grammar.specs.FileReader.{optional, parseArgs, named, macroRest, parseMacro, byKind, kindTable}
 use Rattle.grammar.specs.FileRecords.{macroNumber, formArguments, formCount, formStatements, definitionRecord}
 use Rattle.grammar.proofs.AtPlace.{look-at}
 use Rattle.statements.specs.Answers.{SingleRead, ListRead, BodyParsed}
@@ -39,6 +39,7 @@ use Rattle.definitions.specs.Behind.{formed, behindName}
 use Rattle.definitions.specs.Macros.{MacroKind, macroSort, NumberRead, numbersFrom, NumbersRead, headFrom, tailFrom, MacroPut, TailParsed}
 use Rattle.statements.proofs.At.{look-table, look-else, expect-yes, expect-no}
 use Rattle.statements.proofs.ListLaws.{Listing, listing-closed, behind}
+use Rattle.definitions.proofs.DefinitionLaws.{by-kind}
 use Rattle.definitions.proofs.Named.{refused}
 use Rattle.definitions.proofs.Readers.{Stops, stops-here, as-stops, seq-stops, seq-at, seq-then-stops, seq-nothing, seq-same, seq-group, expect-group, AtLeast, any-least, expect-least, seq-least}
 
@@ -447,3 +448,10 @@ module _ (first p : ℕ) (all : List Token) where
       look-else p all (λ t. macroTable) (λ t. refuse (plain 1)) k e
       ((λ s. h (omega arith, omega arith)), ((λ s. h (omega arith, omega arith)), ((λ s. h (omega arith, omega arith)), tt)))
       ∙ look-at (λ t. refuse (plain 1)) p all
+
+  -- behind Define all three have one reader
+  pub macro-chosen : (k : ℕ) → tokenAt all p .kind ≡ k → MacroKind k → byKind (kindTable base first) (plain 2) p (drop p all) ≡ parseMacro base first p (drop p all)
+  unfolding choose
+  macro-chosen k e h =
+      by-kind all p (kindTable base first) (plain 2) k e
+      ∙ ⊎-elim (λ (s : k ≡ 6). rw s) (⊎-elim (λ (s : k ≡ 7). rw s) (λ (s : k ≡ 8). rw s)) (which k h)

@@ -252,31 +252,8 @@ fn define(
         (now (definitions .exit)) (now (statements .exit)) (now (arguments .exit)) ⌝ }
 {
     match kind_at(tokens, kept, p) {
-        6 => parse_macro(
-            text,
-            tokens,
-            kept,
-            first,
-            p,
-            definitions,
-            statements,
-            arguments,
-            i,
-            a,
-        ),
-        7 => parse_macro(
-            text,
-            tokens,
-            kept,
-            first,
-            p,
-            definitions,
-            statements,
-            arguments,
-            i,
-            a,
-        ),
-        8 => parse_macro(
+        // One place for all three, so that the compiler makes one function of both.
+        6 | 7 | 8 => parse_macro(
             text,
             tokens,
             kept,

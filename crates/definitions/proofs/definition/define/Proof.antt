@@ -1,4 +1,5 @@
 use mathlib.Core.Path.{refl, _∙_}
+use native.Mathlib.Omega.{arith}
 use borrow.Author.Needs.{needs}
 use Rattle.tokens.specs.Token.{view}
 use Rattle.grammar.specs.Result.{plain, choose}
@@ -6,20 +7,12 @@ use Rattle.grammar.specs.Rules.{base}
 use Rattle.grammar.specs.FileReader.{kindTable}
 use Rattle.statements.proofs.At.{kind-is}
 use Rattle.definitions.proofs.DefinitionLaws.{refused-plain, refused-parsed, by-kind, by-none}
+use Rattle.definitions.proofs.MacroLaws.{macro-chosen}
 use Rattle.definitions.proofs.definition.define.Statement.{statement}
 use Rattle.definitions.proofs.definition.define.Tie as tie
 
 kind-at-requires : tie.Need-kind-at-requires
 kind-at-requires c κs = search needs
-
-parse-macro-requires : tie.Need-parse-macro-requires
-parse-macro-requires c κs = search needs
-
-parse-macro-requires-2 : tie.Need-parse-macro-requires-2
-parse-macro-requires-2 c κs = search needs
-
-parse-macro-requires-3 : tie.Need-parse-macro-requires-3
-parse-macro-requires-3 c κs = search needs
 
 parse-function-requires : tie.Need-parse-function-requires
 parse-function-requires c κs = search needs
@@ -42,6 +35,9 @@ parse-table-requires-2 c κs = search needs
 parse-table-requires-3 : tie.Need-parse-table-requires-3
 parse-table-requires-3 c κs = search needs
 
+parse-macro-requires : tie.Need-parse-macro-requires
+parse-macro-requires c κs = search needs
+
 same-length : tie.Need-same-length
 same-length c = search needs
 
@@ -57,7 +53,7 @@ returns c =
     let args = c .before .before .before .before .before .before .before .before .before .before .before .before .before .before .before .before .before .before .args in
     let all = view (args .text .now) (args .tokens .now) (args .kept .now) in
     let k = kind-is (args .text .now) (args .p) (c .before .before .before .before .before .before .before .before .before .before .before .kind-at .ensures) refl in
-    rw (by-kind all (args .p) (kindTable base (args .first)) (plain 2) 6 (k ∙ c .before .before .before .before .before .before .before .before .before .before .match .keys1)) (c .before .before .before .before .before .before .parse-macro .ensures)
+    rw (by-kind all (args .p) (kindTable base (args .first)) (plain 2) 9 (k ∙ c .before .before .before .before .before .before .before .before .before .before .match .keys1)) (c .before .before .before .before .before .before .parse-function .ensures)
 
 same-length-4 : tie.Need-same-length-4
 same-length-4 c = search needs
@@ -74,7 +70,7 @@ returns-2 c =
     let args = c .before .before .before .before .before .before .before .before .before .before .before .before .before .before .before .before .before .before .args in
     let all = view (args .text .now) (args .tokens .now) (args .kept .now) in
     let k = kind-is (args .text .now) (args .p) (c .before .before .before .before .before .before .before .before .before .before .before .kind-at .ensures) refl in
-    rw (by-kind all (args .p) (kindTable base (args .first)) (plain 2) 7 (k ∙ c .before .before .before .before .before .before .before .before .before .before .match .keys2)) (c .before .before .before .before .before .before .parse-macro2 .ensures)
+    rw (by-kind all (args .p) (kindTable base (args .first)) (plain 2) 10 (k ∙ c .before .before .before .before .before .before .before .before .before .before .match .keys2)) (c .before .before .before .before .before .before .parse-event .ensures)
 
 same-length-7 : tie.Need-same-length-7
 same-length-7 c = search needs
@@ -91,7 +87,7 @@ returns-3 c =
     let args = c .before .before .before .before .before .before .before .before .before .before .before .before .before .before .before .before .before .before .args in
     let all = view (args .text .now) (args .tokens .now) (args .kept .now) in
     let k = kind-is (args .text .now) (args .p) (c .before .before .before .before .before .before .before .before .before .before .before .kind-at .ensures) refl in
-    rw (by-kind all (args .p) (kindTable base (args .first)) (plain 2) 8 (k ∙ c .before .before .before .before .before .before .before .before .before .before .match .keys3)) (c .before .before .before .before .before .before .parse-macro3 .ensures)
+    rw (by-kind all (args .p) (kindTable base (args .first)) (plain 2) 11 (k ∙ c .before .before .before .before .before .before .before .before .before .before .match .keys3)) (c .before .before .before .before .before .before .parse-constant .ensures)
 
 same-length-10 : tie.Need-same-length-10
 same-length-10 c = search needs
@@ -108,7 +104,7 @@ returns-4 c =
     let args = c .before .before .before .before .before .before .before .before .before .before .before .before .before .before .before .before .before .before .args in
     let all = view (args .text .now) (args .tokens .now) (args .kept .now) in
     let k = kind-is (args .text .now) (args .p) (c .before .before .before .before .before .before .before .before .before .before .before .kind-at .ensures) refl in
-    rw (by-kind all (args .p) (kindTable base (args .first)) (plain 2) 9 (k ∙ c .before .before .before .before .before .before .before .before .before .before .match .keys4)) (c .before .before .before .before .before .before .parse-function .ensures)
+    rw (by-kind all (args .p) (kindTable base (args .first)) (plain 2) 12 (k ∙ c .before .before .before .before .before .before .before .before .before .before .match .keys4)) (c .before .before .before .before .before .before .parse-custom-error .ensures)
 
 same-length-13 : tie.Need-same-length-13
 same-length-13 c = search needs
@@ -125,7 +121,7 @@ returns-5 c =
     let args = c .before .before .before .before .before .before .before .before .before .before .before .before .before .before .before .before .before .before .args in
     let all = view (args .text .now) (args .tokens .now) (args .kept .now) in
     let k = kind-is (args .text .now) (args .p) (c .before .before .before .before .before .before .before .before .before .before .before .kind-at .ensures) refl in
-    rw (by-kind all (args .p) (kindTable base (args .first)) (plain 2) 10 (k ∙ c .before .before .before .before .before .before .before .before .before .before .match .keys5)) (c .before .before .before .before .before .before .parse-event .ensures)
+    rw (by-kind all (args .p) (kindTable base (args .first)) (plain 2) 13 (k ∙ c .before .before .before .before .before .before .before .before .before .before .match .keys5)) (c .before .before .before .before .before .before .parse-table .ensures)
 
 same-length-16 : tie.Need-same-length-16
 same-length-16 c = search needs
@@ -142,7 +138,7 @@ returns-6 c =
     let args = c .before .before .before .before .before .before .before .before .before .before .before .before .before .before .before .before .before .before .args in
     let all = view (args .text .now) (args .tokens .now) (args .kept .now) in
     let k = kind-is (args .text .now) (args .p) (c .before .before .before .before .before .before .before .before .before .before .before .kind-at .ensures) refl in
-    rw (by-kind all (args .p) (kindTable base (args .first)) (plain 2) 11 (k ∙ c .before .before .before .before .before .before .before .before .before .before .match .keys6)) (c .before .before .before .before .before .before .parse-constant .ensures)
+    rw (by-kind all (args .p) (kindTable base (args .first)) (plain 2) 14 (k ∙ c .before .before .before .before .before .before .before .before .before .before .match .keys6)) (c .before .before .before .before .before .before .parse-table2 .ensures)
 
 same-length-19 : tie.Need-same-length-19
 same-length-19 c = search needs
@@ -159,7 +155,7 @@ returns-7 c =
     let args = c .before .before .before .before .before .before .before .before .before .before .before .before .before .before .before .before .before .before .args in
     let all = view (args .text .now) (args .tokens .now) (args .kept .now) in
     let k = kind-is (args .text .now) (args .p) (c .before .before .before .before .before .before .before .before .before .before .before .kind-at .ensures) refl in
-    rw (by-kind all (args .p) (kindTable base (args .first)) (plain 2) 12 (k ∙ c .before .before .before .before .before .before .before .before .before .before .match .keys7)) (c .before .before .before .before .before .before .parse-custom-error .ensures)
+    rw (by-kind all (args .p) (kindTable base (args .first)) (plain 2) 15 (k ∙ c .before .before .before .before .before .before .before .before .before .before .match .keys7)) (c .before .before .before .before .before .before .parse-table3 .ensures)
 
 same-length-22 : tie.Need-same-length-22
 same-length-22 c = search needs
@@ -171,63 +167,37 @@ same-length-24 : tie.Need-same-length-24
 same-length-24 c = search needs
 
 returns-8 : tie.Need-returns-8
-unfolding choose
 returns-8 c =
-    let args = c .before .before .before .before .before .before .before .before .before .before .before .before .before .before .before .before .before .before .args in
+    let args = c .before .before .before .before .before .before .before .before .before .before .before .before .before .before .before .before .before .before .before .before .args in
     let all = view (args .text .now) (args .tokens .now) (args .kept .now) in
-    let k = kind-is (args .text .now) (args .p) (c .before .before .before .before .before .before .before .before .before .before .before .kind-at .ensures) refl in
-    rw (by-kind all (args .p) (kindTable base (args .first)) (plain 2) 13 (k ∙ c .before .before .before .before .before .before .before .before .before .before .match .keys8)) (c .before .before .before .before .before .before .parse-table .ensures)
-
-same-length-25 : tie.Need-same-length-25
-same-length-25 c = search needs
-
-same-length-26 : tie.Need-same-length-26
-same-length-26 c = search needs
-
-same-length-27 : tie.Need-same-length-27
-same-length-27 c = search needs
+    let k = kind-is (args .text .now) (args .p) (c .before .before .before .before .before .before .before .before .before .before .before .before .before .kind-at .ensures) refl in
+    let low = c .before .before .before .before .before .before .before .before .before .before .before .if1 .left in
+    let high = c .before .before .before .before .before .before .before .before .before .before .if2 .taken in
+    rw (macro-chosen (args .first) (args .p) all _ k (omega (arith, low), omega (arith, high))) (c .before .before .before .before .before .before .parse-macro .ensures)
 
 returns-9 : tie.Need-returns-9
-unfolding choose
 returns-9 c =
-    let args = c .before .before .before .before .before .before .before .before .before .before .before .before .before .before .before .before .before .before .args in
+    let args = c .before .before .before .before .before .before .before .before .before .args in
     let all = view (args .text .now) (args .tokens .now) (args .kept .now) in
-    let k = kind-is (args .text .now) (args .p) (c .before .before .before .before .before .before .before .before .before .before .before .kind-at .ensures) refl in
-    rw (by-kind all (args .p) (kindTable base (args .first)) (plain 2) 14 (k ∙ c .before .before .before .before .before .before .before .before .before .before .match .keys9)) (c .before .before .before .before .before .before .parse-table2 .ensures)
-
-same-length-28 : tie.Need-same-length-28
-same-length-28 c = search needs
-
-same-length-29 : tie.Need-same-length-29
-same-length-29 c = search needs
-
-same-length-30 : tie.Need-same-length-30
-same-length-30 c = search needs
+    let k = kind-is (args .text .now) (args .p) (c .before .before .kind-at .ensures) refl in
+    let no = c .before .match .rest in
+    let low = c .if1 .taken in
+    refused-parsed (refused-plain (by-none all (args .p) (kindTable base (args .first)) (plain 2) _ k (no .0 .0 .0 .0 .0 .0 .1, (no .0 .0 .0 .0 .0 .1, (no .0 .0 .0 .0 .1, (no .0 .0 .0 .1, ((λ s. omega (arith, low, s)), ((λ s. omega (arith, low, s)), ((λ s. omega (arith, low, s)), (no .0 .0 .1, (no .0 .1, (no .1, tt)))))))))))) refl
 
 returns-10 : tie.Need-returns-10
-unfolding choose
 returns-10 c =
-    let args = c .before .before .before .before .before .before .before .before .before .before .before .before .before .before .before .before .before .before .args in
+    let args = c .before .before .before .before .before .before .before .before .before .before .args in
     let all = view (args .text .now) (args .tokens .now) (args .kept .now) in
-    let k = kind-is (args .text .now) (args .p) (c .before .before .before .before .before .before .before .before .before .before .before .kind-at .ensures) refl in
-    rw (by-kind all (args .p) (kindTable base (args .first)) (plain 2) 15 (k ∙ c .before .before .before .before .before .before .before .before .before .before .match .keys10)) (c .before .before .before .before .before .before .parse-table3 .ensures)
-
-returns-11 : tie.Need-returns-11
-returns-11 c =
-    let args = c .before .before .before .before .before .before .before .before .args in
-    let all = view (args .text .now) (args .tokens .now) (args .kept .now) in
-    let k = kind-is (args .text .now) (args .p) (c .before .kind-at .ensures) refl in
-    let no = c .match .rest in
-    refused-parsed (refused-plain (by-none all (args .p) (kindTable base (args .first)) (plain 2) _ k (no .0 .0 .0 .0 .0 .0 .1, (no .0 .0 .0 .0 .0 .1, (no .0 .0 .0 .0 .1, (no .0 .0 .0 .1, (no .0 .0 .0 .0 .0 .0 .0 .0 .0 .1, (no .0 .0 .0 .0 .0 .0 .0 .0 .1, (no .0 .0 .0 .0 .0 .0 .0 .1, (no .0 .0 .1, (no .0 .1, (no .1, tt)))))))))))) refl
+    let k = kind-is (args .text .now) (args .p) (c .before .before .before .kind-at .ensures) refl in
+    let no = c .before .before .match .rest in
+    let high = c .if2 .left in
+    refused-parsed (refused-plain (by-none all (args .p) (kindTable base (args .first)) (plain 2) _ k (no .0 .0 .0 .0 .0 .0 .1, (no .0 .0 .0 .0 .0 .1, (no .0 .0 .0 .0 .1, (no .0 .0 .0 .1, ((λ s. omega (arith, high, s)), ((λ s. omega (arith, high, s)), ((λ s. omega (arith, high, s)), (no .0 .0 .1, (no .0 .1, (no .1, tt)))))))))))) refl
 
 pub define-spec : {M : Type 1} → statement M
 define-spec =
     tie.close
     (tie.spec
     kind-at-requires
-    parse-macro-requires
-    parse-macro-requires-2
-    parse-macro-requires-3
     parse-function-requires
     parse-event-requires
     parse-constant-requires
@@ -235,6 +205,7 @@ define-spec =
     parse-table-requires
     parse-table-requires-2
     parse-table-requires-3
+    parse-macro-requires
     same-length
     same-length-2
     same-length-3
@@ -267,12 +238,5 @@ define-spec =
     same-length-23
     same-length-24
     returns-8
-    same-length-25
-    same-length-26
-    same-length-27
     returns-9
-    same-length-28
-    same-length-29
-    same-length-30
-    returns-10
-    returns-11)
+    returns-10)
