@@ -6,12 +6,13 @@ ghost use Prim.Native.Nat.{_+_};
 ghost use Rattle.tokens.specs.Table.{put};
 ghost use Rattle.definitions.specs.Pieces.{Small};
 
-// A definition that was read: the place behind it, its statement and argument records, the place of its name, and whether it is a macro, fn or test.
+// A definition that was read: the place behind it, its statement and argument records, the place of its name, and whether it is a macro, fn or test. The two counts
+// stand apart: side by side the compiler copies them as one value, and a machine waits for that, since they were just written as two.
 pub struct Found {
     pub at: usize,
     pub statements: usize,
-    pub arguments: usize,
     pub name: usize,
+    pub arguments: usize,
     pub named: bool,
 }
 

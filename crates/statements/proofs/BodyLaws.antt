@@ -4,15 +4,15 @@ use native.Mathlib.Nat.{add-zero, add-assoc, zero-add}
 use native.Mathlib.Numerals.{add-one}
 use native.Mathlib.Omega.{arith}
 use mathlib.Core.Path.{_≡_, refl, sym, ap, _∙_}
-use mathlib.Core.Bool.{Bool, true, false, cond}
+use mathlib.Core.Bool.{Bool, true, false, cond, not}
 use mathlib.Core.List.{List, [], _∷_, _++_, map, map-append, append-nil, append-assoc, flatten}
 use lib.ListN.{length, drop, length-append, length-map}
 use lib.Dec.{eqb}
 use borrow.Author.Tests.{ne-eqb, eqb-true, eqb-false}
 use Rattle.tokens.specs.Kind.{Label, CloseBrace, Colon, OpenBrace}
-use Rattle.tokens.specs.Token.{Token, tokenAt, view, KindAt}
+use Rattle.tokens.specs.Token.{Token, tokenAt, view, kindAt, KindAt}
 use Rattle.tokens.specs.Table.{put, putAll}
-use Rattle.tokens.proofs.ViewLaws.{view-kind}
+use Rattle.tokens.proofs.ViewLaws.{view-kind, view-length}
 use Rattle.tokens.proofs.TableLaws.{put-late}
 use Rattle.grammar.specs.Reading.{Simple, Group, Reading}
 use Rattle.grammar.specs.Rules.{base}
@@ -27,9 +27,11 @@ use Rattle.grammar.proofs.Recorded.{as-many}
 use Rattle.statements.specs.declared.item.Tally.{Tally}
 use Rattle.statements.specs.declared.item.Items.{Items}
 use Rattle.statements.specs.declared.item.Items.the-variants.{Done, Refused}
-use Rattle.statements.specs.Answers.{Counting, TallyWithin, tallied, simpleAnswer, groupsAnswer, bodyAnswer, simpleArguments, groupsArguments, SimpleParsed, GroupsParsed, BodyParsed, flattened, oneGroup}
-use Rattle.statements.specs.Label.{skipped, labelWords, LabelPut, LabelInside, closed, ClosedInside}
+use Rattle.statements.specs.Answers.{Counting, TallyWithin, Parsed, tallied, simpleAnswer, bodyAnswer, simpleArguments, SimpleParsed, BodyParsed, flattened}
+use Rattle.statements.specs.Item.{Small}
+use Rattle.statements.specs.Label.{skipped, labelWords, labelOpened}
 use Rattle.statements.proofs.At.{many-bad, test-no, kind-here, kind-inside, expect-taken, expect-refused}
+use Rattle.statements.proofs.ItemLaws.{view-inside}
 use Rattle.statements.proofs.StatementLaws.{tally-same}
 use Rattle.statements.proofs.Pieces.{Piece, no-piece, piece-then, piece-parsed, parsed-piece, refused-parsed}
 
@@ -151,10 +153,10 @@ module _ (text words kept : List ℕ) (p : ℕ) where
   pub items-stop-brace : {r : ℕ} → KindAt words kept p r → r ≡ CloseBrace → (endsItems (tokenAt (view text words kept) p) ≡ true) × (p < length kept)
   items-stop-brace m e = let h = kind-there m e (omega arith) in (rw (h .0), h .1)
 
-  pub groups-go-on : {r : ℕ} → KindAt words kept p r → (r ≡ CloseBrace → ⊥) → endsGroups (tokenAt (view text words kept) p) ≡ false
+  groups-go-on : {r : ℕ} → KindAt words kept p r → (r ≡ CloseBrace → ⊥) → endsGroups (tokenAt (view text words kept) p) ≡ false
   groups-go-on m f = test-no (kind-here text words kept p m) f
 
-  pub groups-stop : {r : ℕ} → KindAt words kept p r → r ≡ CloseBrace → (endsGroups (tokenAt (view text words kept) p) ≡ true) × (p < length kept)
+  groups-stop : {r : ℕ} → KindAt words kept p r → r ≡ CloseBrace → (endsGroups (tokenAt (view text words kept) p) ≡ true) × (p < length kept)
   groups-stop m e = let h = kind-there m e (omega arith) in (rw (h .0), h .1)
 
 -- ---- items
@@ -226,6 +228,22 @@ module _ (takes : Bool) (wrong i a size : ℕ) (all : List Token) where
 
 -- ---- a label
 
+-- label groups, promised as statements are: the answer, the records, and both
+abbrev pub groupsAnswer : Tally → Res (List Group) → Items
+groupsAnswer s (got gs k) = Done (tallied s k (groupCount gs) (length (groupArguments gs)))
+groupsAnswer s (bad y w) = Refused (number y) (w + beyond y)
+
+abbrev pub groupsArguments : List Group → List (List ℕ)
+groupsArguments gs = map argumentRecord (groupArguments gs)
+
+abbrev pub GroupsParsed : Tally → ℕ → ℕ → ℕ → Res (List Group) → List ℕ → List ℕ → Items → List ℕ → List ℕ → Type 0
+GroupsParsed = Parsed groupsAnswer groupRecords groupsArguments
+
+-- one group as a list
+abbrev oneGroup : Res Group → Res (List Group)
+oneGroup (got g k) = got (g ∷ []) k
+oneGroup (bad y w) = bad y w
+
 module _ (i a size : ℕ) (all : List Token) (s : Tally) where
   label-step : tokenAt all (s .at) .kind ≡ Label → labelGroup base [] (s .at) (drop (s .at) all) ≡ oneMore (groupRest base (s .at) (tokenAt all (s .at)) (s .at + 1) (drop (s .at + 1) all))
   unfolding labelGroup choose
@@ -234,7 +252,7 @@ module _ (i a size : ℕ) (all : List Token) (s : Tally) where
       ∙ rw (e, add-one)
 
   -- no label, or no colon behind it
-  pub not-a-label : {st ar st′ ar′ : List ℕ} → (tokenAt all (s .at) .kind ≡ Label → ⊥)
+  not-a-label : {st ar st′ ar′ : List ℕ} → (tokenAt all (s .at) .kind ≡ Label → ⊥)
       → GroupsParsed s i a size (oneGroup (labelGroup base [] (s .at) (drop (s .at) all))) st ar (Refused 5 (s .at)) st′ ar′
   unfolding labelGroup choose
   not-a-label e =
@@ -242,7 +260,7 @@ module _ (i a size : ℕ) (all : List Token) (s : Tally) where
       look-at (λ t. choose ((Label, on (groupRest base (s .at) t)) ∷ []) (refuse (plain 5)) (t .kind)) (s .at) all ∙ rw (ne-eqb _ _ e) in
       refused-parsed groupsAnswer groupRecords groupsArguments i a (plain 5) (s .at) (ap oneGroup step) refl refl (sym (add-zero (s .at)))
 
-  pub no-colon : {st ar st′ ar′ : List ℕ} → tokenAt all (s .at) .kind ≡ Label → (tokenAt all (s .at + 1) .kind ≡ Colon → ⊥)
+  no-colon : {st ar st′ ar′ : List ℕ} → tokenAt all (s .at) .kind ≡ Label → (tokenAt all (s .at + 1) .kind ≡ Colon → ⊥)
       → GroupsParsed s i a size (oneGroup (labelGroup base [] (s .at) (drop (s .at) all))) st ar (Refused 1 (s .at + 1)) st′ ar′
   unfolding groupRest
   no-colon e f =
@@ -278,45 +296,60 @@ module _ (i a size : ℕ) (all : List Token) (s : Tally) where
         fewArguments = omega (arith, v .fewArguments);
       }
 
-  pub label-parsed : {st ar st₁ ar₁ st₂ : List ℕ} {inner r : Items}
+  label-parsed : {st ar st₁ ar₁ st₂ : List ℕ} {t : Tally}
       → tokenAt all (s .at) .kind ≡ Label
       → tokenAt all (s .at + 1) .kind ≡ Colon
-      → ItemsLeft false 6 i a size all (skipped s 2 1) st ar inner st₁ ar₁
-      → LabelPut st₁ s i a inner r st₂
-      → GroupsParsed s i a size (oneGroup (labelGroup base [] (s .at) (drop (s .at) all))) st ar r st₂ ar₁
+      → ItemsLeft false 6 i a size all (skipped s 2 1) st ar (Done t) st₁ ar₁
+      → st₂ ≡ put 8 st₁ (s .statements) (labelWords s i a t)
+      → GroupsParsed s i a size (oneGroup (labelGroup base [] (s .at) (drop (s .at) all))) st ar (Done t) st₂ ar₁
   unfolding groupRecords groupCount groupArguments
-  label-parsed {st} {ar} {st₁} {ar₁} {st₂} {inner} {r} e f v w = go (items false 6 (s .at + 2) (drop (s .at + 2) all)) refl
+  label-parsed {st} {ar} {st₁} {ar₁} {st₂} {t} e f v w = go (items false 6 (s .at + 2) (drop (s .at + 2) all)) refl
     where
       go : (x : Res (List (List Simple))) → items false 6 (s .at + 2) (drop (s .at + 2) all) ≡ x
-          → GroupsParsed s i a size (oneGroup (labelGroup base [] (s .at) (drop (s .at) all))) st ar r st₂ ar₁
-      go (bad y q) g =
-          let is : inner ≡ Refused (number y) (q + beyond y) = v .is ∙ ap (λ x. simpleAnswer (skipped s 2 1) (flattened x)) g in
-          rw (w .is, is) (refused-parsed groupsAnswer groupRecords groupsArguments i a y q (ap oneGroup (label-read (bad y q) e f g)) refl refl refl)
+          → GroupsParsed s i a size (oneGroup (labelGroup base [] (s .at) (drop (s .at) all))) st ar (Done t) st₂ ar₁
+      go (bad y q) g = absurd (let f : Done t ≡ Refused (number y) (q + beyond y) = v .is ∙ ap (λ x. simpleAnswer (skipped s 2 1) (flattened x)) g in let z : _≡_ {A = ℕ} 0 1 = cc in omega arith)
       go (got is n) g =
-          let v′ : SimpleParsed (skipped s 2 1) i a size (got (flatten is) n) st ar inner st₁ ar₁ = rw g at v in
+          let v′ : SimpleParsed (skipped s 2 1) i a size (got (flatten is) n) st ar (Done t) st₁ ar₁ = rw g at v in
           let first = parsed-piece simpleAnswer simpleRecords simpleArguments i a v′ refl in
-          let w′ = rw (first .0) at w in
+          let here : t ≡ tallied (skipped s 2 1) n (length (flatten is)) (length (argumentsOf (flatten is))) = cc (first .0) in
           let own : i + (s .statements + 1) ≡ suc (i + s .statements) = omega arith in
           let count : s .statements + 1 + length (flatten is) - (s .statements + 1) ≡ length (flatten is) = omega arith in
           let none : n + 0 ≡ n = add-zero n in
           let two : 2 + n ≡ suc (suc n) = omega arith in
-          rw (w′ .is)
-          (piece-parsed groupsAnswer groupRecords groupsArguments i a (theGroup n is ∷ []) (label-piece (first .1) (w′ .table))
+          rw here
+          (piece-parsed groupsAnswer groupRecords groupsArguments i a (theGroup n is ∷ []) (label-piece (first .1) (rw here at w))
           (ap oneGroup (label-read (got is n) e f g) ∙ rw (none, two))
           (ap Done (tally-same refl (ap (λ k. s .statements + k) (add-zero (suc (length (flatten is))))) (ap (λ k. s .arguments + length k) (append-nil (argumentsOf (flatten is))))))
           (rw (append-nil, own, count, add-one))
           (ap (map argumentRecord) (append-nil (argumentsOf (flatten is)))))
 
-  -- what the label's writer needs of the items
-  pub label-inside : {words kept st ar st₁ ar₁ : List ℕ} {inner : Items} → Counting words kept s i a → length kept ≡ size → ItemsLeft false 6 i a size all (skipped s 2 1) st ar inner st₁ ar₁ → LabelInside s inner
-  label-inside {words} {kept} {st} {ar} {st₁} {ar₁} {inner} g len v = go (items false 6 (s .at + 2) (drop (s .at + 2) all)) refl
+  -- an item of it is refused
+  label-refused : {st ar st₁ ar₁ : List ℕ} {c q : ℕ}
+      → tokenAt all (s .at) .kind ≡ Label
+      → tokenAt all (s .at + 1) .kind ≡ Colon
+      → ItemsLeft false 6 i a size all (skipped s 2 1) st ar (Refused c q) st₁ ar₁
+      → GroupsParsed s i a size (oneGroup (labelGroup base [] (s .at) (drop (s .at) all))) st ar (Refused c q) st₁ ar₁
+  label-refused {st} {ar} {st₁} {ar₁} {c} {q} e f v = go (items false 6 (s .at + 2) (drop (s .at + 2) all)) refl
     where
-      go : (x : Res (List (List Simple))) → items false 6 (s .at + 2) (drop (s .at + 2) all) ≡ x → LabelInside s inner
-      go (bad y q) e = let is : inner ≡ Refused (number y) (q + beyond y) = v .is ∙ ap (λ x. simpleAnswer (skipped s 2 1) (flattened x)) e in rw is tt
+      go : (x : Res (List (List Simple))) → items false 6 (s .at + 2) (drop (s .at + 2) all) ≡ x
+          → GroupsParsed s i a size (oneGroup (labelGroup base [] (s .at) (drop (s .at) all))) st ar (Refused c q) st₁ ar₁
+      go (got is n) g = absurd (let f : Refused c q ≡ simpleAnswer (skipped s 2 1) (got (flatten is) n) = v .is ∙ ap (λ x. simpleAnswer (skipped s 2 1) (flattened x)) g in let z : _≡_ {A = ℕ} 0 1 = cc in omega arith)
+      go (bad y w) g =
+          let h : Refused c q ≡ Refused (number y) (w + beyond y) = v .is ∙ ap (λ x. simpleAnswer (skipped s 2 1) (flattened x)) g in
+          refused-parsed groupsAnswer groupRecords groupsArguments i a y w (ap oneGroup (label-read (bad y w) e f g)) refl (cc) (cc)
+
+  -- what the label's writer needs of the items
+  label-inside : {words kept st ar st₁ ar₁ : List ℕ} {t : Tally} → Counting words kept s i a → length kept ≡ size → ItemsLeft false 6 i a size all (skipped s 2 1) st ar (Done t) st₁ ar₁
+      → (s .statements + 1 ≤ t .statements) × (t .statements ≤ 65536) × (t .at ≤ 65536)
+  label-inside {words} {kept} {st} {ar} {st₁} {ar₁} {t} g len v = go (items false 6 (s .at + 2) (drop (s .at + 2) all)) refl
+    where
+      go : (x : Res (List (List Simple))) → items false 6 (s .at + 2) (drop (s .at + 2) all) ≡ x → (s .statements + 1 ≤ t .statements) × (t .statements ≤ 65536) × (t .at ≤ 65536)
+      go (bad y q) e = absurd (let f : Done t ≡ Refused (number y) (q + beyond y) = v .is ∙ ap (λ x. simpleAnswer (skipped s 2 1) (flattened x)) e in let z : _≡_ {A = ℕ} 0 1 = cc in omega arith)
       go (got us n) e =
-          let v′ : SimpleParsed (skipped s 2 1) i a size (got (flatten us) n) st ar inner st₁ ar₁ = rw e at v in
+          let v′ : SimpleParsed (skipped s 2 1) i a size (got (flatten us) n) st ar (Done t) st₁ ar₁ = rw e at v in
           let first = parsed-piece simpleAnswer simpleRecords simpleArguments i a v′ refl in
-          rw (first .0) (omega arith, omega (arith, first .1 .inside, first .1 .fewStatements, g .few, g .statements), omega (arith, first .1 .inside, g .few))
+          let here : t ≡ tallied (skipped s 2 1) n (length (flatten us)) (length (argumentsOf (flatten us))) = cc (first .0) in
+          rw here (omega arith, omega (arith, first .1 .inside, first .1 .fewStatements, g .few, g .statements), omega (arith, first .1 .inside, g .few))
 
 -- ---- labels one behind the other
 
@@ -377,7 +410,7 @@ module _ (i a size : ℕ) (all : List Token) where
       (rw (args, map-append)))
 
   -- what a label's promise says of the turn
-  pub groups-turn : {t next : Tally} {st ar st₁ ar₁ : List ℕ} → length all ≡ size → endsGroups (tokenAt all (t .at)) ≡ false
+  groups-turn : {t next : Tally} {st ar st₁ ar₁ : List ℕ} → length all ≡ size → endsGroups (tokenAt all (t .at)) ≡ false
       → GroupsParsed t i a size (oneGroup (labelGroup base [] (t .at) (drop (t .at) all))) st ar (Done next) st₁ ar₁
       → Turn (GroupsLeft i a size all) t next st ar st₁ ar₁
   unfolding groups
@@ -397,14 +430,14 @@ module _ (i a size : ℕ) (all : List Token) where
             step = λ r st′ ar′ left. rw (whole, aside) (label-then g (suc n) (many endsGroups remember (labelGroup base) [] 0 (t .at + suc n) (drop (t .at + suc n) all)) v′ (rw is at left));
           }
 
-  pub groups-end : {t : Tally} {st ar : List ℕ} → length all ≡ size → t .at < size → endsGroups (tokenAt all (t .at)) ≡ true → GroupsLeft i a size all t st ar (Done t) st ar
+  groups-end : {t : Tally} {st ar : List ℕ} → length all ≡ size → t .at < size → endsGroups (tokenAt all (t .at)) ≡ true → GroupsLeft i a size all t st ar (Done t) st ar
   unfolding groups groupRecords groupCount groupArguments
   groups-end {t} {st} {ar} len h stop =
       piece-parsed groupsAnswer groupRecords groupsArguments i a [] (no-piece t size st ar (omega arith))
       (many-ends endsGroups remember (labelGroup base) [] (t .at) all (omega arith) stop)
       refl refl refl
 
-  pub groups-refused : {t : Tally} {c q : ℕ} {st ar st₁ ar₁ : List ℕ} → length all ≡ size → endsGroups (tokenAt all (t .at)) ≡ false
+  groups-refused : {t : Tally} {c q : ℕ} {st ar st₁ ar₁ : List ℕ} → length all ≡ size → endsGroups (tokenAt all (t .at)) ≡ false
       → GroupsParsed t i a size (oneGroup (labelGroup base [] (t .at) (drop (t .at) all))) st ar (Refused c q) st₁ ar₁
       → GroupsLeft i a size all t st ar (Refused c q) st₁ ar₁
   unfolding groups
@@ -435,11 +468,6 @@ braced {s} {t} {st = st} v h =
       fewArguments = omega (arith, v .fewArguments);
     }
 
--- what the reader of the brace needs
-pub closed-inside : {words kept : List ℕ} {s : Tally} {i a : ℕ} (r : Items) → Counting words kept s i a → TallyWithin s (length kept) r → ClosedInside r
-closed-inside {words} {kept} {i = i} {a = a} (Done t) g h = let n : Counting words kept t i a = counting-next g h in (omega arith, omega arith)
-closed-inside (Refused c q) g h = tt
-
 -- the closing brace behind what was read
 abbrev pub shut : List Token → Items → Items
 shut all (Done t) = cond (eqb (tokenAt all (t .at) .kind) CloseBrace) (Done (skipped t 1 0)) (Refused 5 (t .at))
@@ -460,7 +488,7 @@ module _ (i a size : ℕ) (all : List Token) (s : Tally) where
   opened e = expect-taken OpenBrace (plain 1) (λ o. seq (items true 5) rest) (s .at) all e
 
   -- an item of the macro part is refused
-  pub main-refused : {st ar st₁ ar₁ : List ℕ} {c q : ℕ} → tokenAt all (s .at) .kind ≡ OpenBrace
+  main-refused : {st ar st₁ ar₁ : List ℕ} {c q : ℕ} → tokenAt all (s .at) .kind ≡ OpenBrace
       → ItemsLeft true 5 i a size all (skipped s 1 0) st ar (Refused c q) st₁ ar₁
       → BodyParsed s i a size (bodyFrom base (s .at) (drop (s .at) all)) st ar (Refused c q) st₁ ar₁
   main-refused {st} {ar} {st₁} {ar₁} {c} {q} e v = go (items true 5 (s .at + 1) (drop (s .at + 1) all)) refl
@@ -538,7 +566,7 @@ module _ (i a size : ℕ) (all : List Token) (s : Tally) where
               (rw (ap (λ (x : Tally). x .statements) is, ap (λ (x : Tally). x .arguments) is, add-zero (s .statements), add-assoc i (s .statements) (length (flatten us)), add-assoc a (s .arguments) (length (argumentsOf (flatten us)))))
               (map-append argumentRecord (argumentsOf (flatten us)) (groupArguments gs))
 
-  pub body-parsed : {st ar st₁ ar₁ st₂ ar₂ : List ℕ} {t : Tally} {r : Items}
+  body-parsed : {st ar st₁ ar₁ st₂ ar₂ : List ℕ} {t : Tally} {r : Items}
       → ((q : ℕ) → 0 < tokenAt all q .kind → q < size)
       → tokenAt all (s .at) .kind ≡ OpenBrace
       → ItemsLeft true 5 i a size all (skipped s 1 0) st ar (Done t) st₁ ar₁
@@ -550,7 +578,168 @@ module _ (i a size : ℕ) (all : List Token) (s : Tally) where
       go (bad y q) f = absurd (let g : Done t ≡ Refused (number y) (q + beyond y) = v .is ∙ ap (λ x. simpleAnswer (skipped s 1 0) (flattened x)) f in let z : _≡_ {A = ℕ} 0 1 = cc in omega arith)
       go (got us n) f = finished us n inside e f (rw f at v) w
 
--- as the code looks for it
-pub shut-is : (text words kept : List ℕ) (r : Items) → closed words kept r ≡ shut (view text words kept) r
-shut-is text words kept (Done t) = rw (view-kind text words kept (t .at))
-shut-is text words kept (Refused c q) = refl
+-- ---- the body's loop
+
+-- the body from its brace at s on
+abbrev pub BodyLeft : ℕ → ℕ → ℕ → List Token → Tally → List ℕ → List ℕ → Items → List ℕ → List ℕ → Type 0
+BodyLeft i a size all s = BodyParsed s i a size (bodyFrom base (s .at) (drop (s .at) all))
+
+-- the same of the body whose first item stands at t₀
+abbrev pub Promised : ℕ → ℕ → ℕ → List Token → Tally → List ℕ → List ℕ → Items → List ℕ → List ℕ → Type 0
+Promised i a size all t₀ st₀ ar₀ r st′ ar′ = (s : Tally) → t₀ ≡ skipped s 1 0 → tokenAt all (s .at) .kind ≡ OpenBrace → BodyLeft i a size all s st₀ ar₀ r st′ ar′
+
+-- labels from t on: whatever is promised of them is promised of the body, with the brace behind them
+abbrev pub Onward : ℕ → ℕ → ℕ → List Token → Tally → List ℕ → List ℕ → Tally → List ℕ → List ℕ → Type 0
+Onward i a size all t₀ st₀ ar₀ t st ar = (r : Items) (st′ ar′ : List ℕ) → GroupsLeft i a size all t st ar r st′ ar′ → Promised i a size all t₀ st₀ ar₀ (shut all r) st′ ar′
+
+-- the items of a label are read, whose own record is not yet written
+pub record InLabel (text words kept : List ℕ) (i a : ℕ) (t₀ : Tally) (st₀ ar₀ : List ℕ) (wrong : ℕ) (t label : Tally) (st ar : List ℕ) : Type 0 where
+  pub six : wrong ≡ 6
+  pub here : t ≡ skipped label 2 1
+  pub sign : tokenAt (view text words kept) (label .at) .kind ≡ Label
+  pub colon : tokenAt (view text words kept) (label .at + 1) .kind ≡ Colon
+  pub counting : Counting words kept label i a
+  pub onward : Onward i a (length kept) (view text words kept) t₀ st₀ ar₀ label st ar
+
+-- the macro part's items, or a label's, by whether a push takes a literal
+abbrev pub Part : List ℕ → List ℕ → List ℕ → ℕ → ℕ → Tally → List ℕ → List ℕ → Bool → ℕ → Tally → Tally → List ℕ → List ℕ → Type 0
+Part text words kept i a t₀ st₀ ar₀ true wrong t label st ar = (wrong ≡ 5) × (t ≡ t₀) × (st ≡ st₀) × (ar ≡ ar₀)
+Part text words kept i a t₀ st₀ ar₀ false wrong t label st ar = InLabel text words kept i a t₀ st₀ ar₀ wrong t label st ar
+
+pub record BodyWalk (text words kept : List ℕ) (i a : ℕ) (t₀ : Tally) (st₀ ar₀ : List ℕ) (takes : Bool) (wrong : ℕ) (t label : Tally) (st ar : List ℕ) : Type 0 where
+  pub counting : Counting words kept t i a
+  pub sameStatements : length st ≡ length st₀
+  pub sameArguments : length ar ≡ length ar₀
+  pub part : Part text words kept i a t₀ st₀ ar₀ takes wrong t label st ar
+
+-- a label that the code finds opened
+pub record Opened (text words kept : List ℕ) (next inside : Tally) : Type 0 where
+  pub here : inside ≡ skipped next 2 1
+  pub sign : tokenAt (view text words kept) (next .at) .kind ≡ Label
+  pub colon : tokenAt (view text words kept) (next .at + 1) .kind ≡ Colon
+  pub further : next .at + 2 ≤ length kept
+
+pub opened-label : (text words kept : List ℕ) {next inside : Tally} → Done inside ≡ labelOpened words kept next → Opened text words kept next inside
+opened-label text words kept {next} {inside} e = go (eqb (kindAt words kept (next .at)) Label) (eqb (kindAt words kept (next .at + 1)) Colon) refl refl e
+  where
+    go : (b d : Bool) → eqb (kindAt words kept (next .at)) Label ≡ b → eqb (kindAt words kept (next .at + 1)) Colon ≡ d
+        → Done inside ≡ cond b (cond d (Done (skipped next 2 1)) (Refused 1 (next .at + 1))) (Refused 5 (next .at))
+        → Opened text words kept next inside
+    go false d f g h = absurd (let z : _≡_ {A = ℕ} 0 1 = cc in omega arith)
+    go true false f g h = absurd (let z : _≡_ {A = ℕ} 0 1 = cc in omega arith)
+    go true true f g h =
+        let there = kind-inside words kept (next .at + 1) Colon (eqb-true _ _ g) (omega arith) in
+        record {
+          here = cc h;
+          sign = view-kind text words kept (next .at) ∙ eqb-true _ _ f;
+          colon = view-kind text words kept (next .at + 1) ∙ eqb-true _ _ g;
+          further = omega (arith, there);
+        }
+
+module _ (text words kept : List ℕ) (i a : ℕ) (t₀ : Tally) (st₀ ar₀ : List ℕ) where
+  -- the part's items are read up to the next sign: the macro part's, with the tables as they are
+  pub main-read : {wrong : ℕ} {t label next : Tally} {st ar st₁ ar₁ st₂ : List ℕ} (takes : Bool) → not takes ≡ false
+      → BodyWalk text words kept i a t₀ st₀ ar₀ takes wrong t label st ar
+      → ItemsLeft takes wrong i a (length kept) (view text words kept) t st ar (Done next) st₁ ar₁
+      → st₂ ≡ st₁
+      → Onward i a (length kept) (view text words kept) t₀ st₀ ar₀ next st₂ ar₁
+  main-read {wrong} {t} {label} {next} {st} {ar} {st₁} {ar₁} {st₂} false e p v w = absurd (let z : _≡_ {A = ℕ} 0 1 = cc in omega arith)
+  main-read {wrong} {t} {label} {next} {st} {ar} {st₁} {ar₁} {st₂} true e p v w =
+      λ r st′ ar′ left s f brace.
+      body-parsed i a (length kept) (view text words kept) s (view-inside text words kept) brace (rw (p .part .0, p .part .1, f, p .part .2, p .part .3) at v) (rw w at left)
+
+  -- a label's, with its own record written behind them
+  pub label-told : {wrong : ℕ} {t label next : Tally} {st ar st₁ ar₁ st₂ : List ℕ} (takes : Bool) → not takes ≡ true
+      → BodyWalk text words kept i a t₀ st₀ ar₀ takes wrong t label st ar
+      → ItemsLeft takes wrong i a (length kept) (view text words kept) t st ar (Done next) st₁ ar₁
+      → st₂ ≡ put 8 st₁ (label .statements) (labelWords label i a next)
+      → Onward i a (length kept) (view text words kept) t₀ st₀ ar₀ next st₂ ar₁
+  label-told {wrong} {t} {label} {next} {st} {ar} {st₁} {ar₁} {st₂} true e p v w = absurd (let z : _≡_ {A = ℕ} 0 1 = cc in omega arith)
+  label-told {wrong} {t} {label} {next} {st} {ar} {st₁} {ar₁} {st₂} false e p v w =
+      let v′ : ItemsLeft false 6 i a (length kept) (view text words kept) (skipped label 2 1) st ar (Done next) st₁ ar₁ = rw (p .part .six, p .part .here) at v in
+      let on : endsGroups (tokenAt (view text words kept) (label .at)) ≡ false = rw (p .part .sign) in
+      let turn = groups-turn i a (length kept) (view text words kept) (view-length text words kept) on (label-parsed i a (length kept) (view text words kept) label (p .part .sign) (p .part .colon) v′ w) in
+      λ r st′ ar′ left. p .part .onward r st′ ar′ (turn .step r st′ ar′ left)
+
+  -- and what its writer needs
+  pub label-room : {wrong : ℕ} {t label next : Tally} {st ar st₁ ar₁ : List ℕ} (takes : Bool) → not takes ≡ true
+      → BodyWalk text words kept i a t₀ st₀ ar₀ takes wrong t label st ar
+      → ItemsLeft takes wrong i a (length kept) (view text words kept) t st ar (Done next) st₁ ar₁
+      → Small label i a 0 0 0 × ((label .statements + 1 ≤ next .statements) × (next .statements ≤ 65536) × (next .at ≤ 65536))
+  label-room {wrong} {t} {label} {next} {st} {ar} {st₁} {ar₁} true e p v = absurd (let z : _≡_ {A = ℕ} 0 1 = cc in omega arith)
+  label-room {wrong} {t} {label} {next} {st} {ar} {st₁} {ar₁} false e p v =
+      let v′ : ItemsLeft false 6 i a (length kept) (view text words kept) (skipped label 2 1) st ar (Done next) st₁ ar₁ = rw (p .part .six, p .part .here) at v in
+      let g = p .part .counting in (
+        record {
+          at = omega (arith, g .few, g .inside);
+          statements = omega (arith, g .few, g .inside, g .statements);
+          arguments = omega (arith, g .few, g .inside, g .arguments);
+          statementsBefore = g .statementsBefore;
+          argumentsBefore = g .argumentsBefore;
+          end = omega arith;
+          own = omega arith;
+          place = omega arith;
+        },
+        label-inside i a (length kept) (view text words kept) label g refl v′,
+      )
+
+  -- an item is refused
+  pub part-refused : {wrong c q : ℕ} {t label : Tally} {st ar st₁ ar₁ : List ℕ} (takes : Bool)
+      → BodyWalk text words kept i a t₀ st₀ ar₀ takes wrong t label st ar
+      → ItemsLeft takes wrong i a (length kept) (view text words kept) t st ar (Refused c q) st₁ ar₁
+      → Promised i a (length kept) (view text words kept) t₀ st₀ ar₀ (Refused c q) st₁ ar₁
+  part-refused {wrong} {c} {q} {t} {label} {st} {ar} {st₁} {ar₁} true p v =
+      λ s f brace. main-refused i a (length kept) (view text words kept) s brace (rw (p .part .0, p .part .1, f, p .part .2, p .part .3) at v)
+  part-refused {wrong} {c} {q} {t} {label} {st} {ar} {st₁} {ar₁} false p v =
+      let v′ : ItemsLeft false 6 i a (length kept) (view text words kept) (skipped label 2 1) st ar (Refused c q) st₁ ar₁ = rw (p .part .six, p .part .here) at v in
+      let on : endsGroups (tokenAt (view text words kept) (label .at)) ≡ false = rw (p .part .sign) in
+      p .part .onward (Refused c q) st₁ ar₁ (groups-refused i a (length kept) (view text words kept) (view-length text words kept) on (label-refused i a (length kept) (view text words kept) label (p .part .sign) (p .part .colon) v′))
+
+  -- the body's brace stands behind them
+  pub brace-shut : {next : Tally} {st ar : List ℕ} {k : ℕ} → Onward i a (length kept) (view text words kept) t₀ st₀ ar₀ next st ar
+      → KindAt words kept (next .at) k
+      → k ≡ CloseBrace
+      → Promised i a (length kept) (view text words kept) t₀ st₀ ar₀ (Done (skipped next 1 0)) st ar
+  brace-shut {next} {st} {ar} w m e =
+      let stop = groups-stop text words kept (next .at) m e in
+      let there : tokenAt (view text words kept) (next .at) .kind ≡ CloseBrace = sym (kind-here text words kept (next .at) m) ∙ e in
+      let v = w (Done next) st ar (groups-end i a (length kept) (view text words kept) (view-length text words kept) (stop .1) (stop .0)) in
+      rw there at v
+
+  -- no label opens there
+  pub unopened : {next : Tally} {st ar : List ℕ} {k c q : ℕ} → Onward i a (length kept) (view text words kept) t₀ st₀ ar₀ next st ar
+      → KindAt words kept (next .at) k
+      → (k ≡ CloseBrace → ⊥)
+      → Refused c q ≡ labelOpened words kept next
+      → Promised i a (length kept) (view text words kept) t₀ st₀ ar₀ (Refused c q) st ar
+  unopened {next} {st} {ar} {k} {c} {q} w m ne e =
+      w (Refused c q) st ar
+      (groups-refused i a (length kept) (view text words kept) (view-length text words kept) (groups-go-on text words kept (next .at) m ne)
+      (go (eqb (kindAt words kept (next .at)) Label) (eqb (kindAt words kept (next .at + 1)) Colon) refl refl e))
+    where
+      go : (b d : Bool) → eqb (kindAt words kept (next .at)) Label ≡ b → eqb (kindAt words kept (next .at + 1)) Colon ≡ d
+          → Refused c q ≡ cond b (cond d (Done (skipped next 2 1)) (Refused 1 (next .at + 1))) (Refused 5 (next .at))
+          → GroupsParsed next i a (length kept) (oneGroup (labelGroup base [] (next .at) (drop (next .at) (view text words kept)))) st ar (Refused c q) st ar
+      go false d f g h = rw h (not-a-label i a (length kept) (view text words kept) next (λ z. eqb-false _ _ f (sym (view-kind text words kept (next .at)) ∙ z)))
+      go true false f g h =
+          rw h
+          (no-colon i a (length kept) (view text words kept) next (view-kind text words kept (next .at) ∙ eqb-true _ _ f) (λ z. eqb-false _ _ g (sym (view-kind text words kept (next .at + 1)) ∙ z)))
+      go true true f g h = absurd (let z : _≡_ {A = ℕ} 0 1 = cc in omega arith)
+
+  pub body-starts : Counting words kept t₀ i a → (label : Tally) → BodyWalk text words kept i a t₀ st₀ ar₀ true 5 t₀ label st₀ ar₀
+  body-starts h label = record { counting = h; sameStatements = refl; sameArguments = refl; part = (refl, refl, refl, refl) }
+
+  -- a turn further: a label opens there, and its items are next
+  pub body-steps : {next inside : Tally} {st ar : List ℕ} → Counting words kept next i a → Onward i a (length kept) (view text words kept) t₀ st₀ ar₀ next st ar
+      → Done inside ≡ labelOpened words kept next
+      → length st ≡ length st₀
+      → length ar ≡ length ar₀
+      → BodyWalk text words kept i a t₀ st₀ ar₀ false 6 inside next st ar
+  body-steps {next} {inside} {st} {ar} h w e es ea =
+      let o = opened-label text words kept e in
+      record {
+        counting = rw (o .here) (counting-skip 2 1 h (o .further) (omega arith));
+        sameStatements = es;
+        sameArguments = ea;
+        part = record { six = refl; here = o .here; sign = o .sign; colon = o .colon; counting = h; onward = w };
+      }

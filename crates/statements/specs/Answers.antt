@@ -7,12 +7,12 @@ use lib.ListN.{length, drop}
 use Rattle.tokens.specs.Token.{Token, view, Numbered}
 use Rattle.tokens.specs.Table.{putAll}
 use Rattle.tokens.specs.Kind.{Ident, RightAngle}
-use Rattle.grammar.specs.Reading.{NONE, Simple, Group, Reading, angled}
+use Rattle.grammar.specs.Reading.{NONE, Simple, Reading, angled}
 use Rattle.grammar.specs.Reading as reading
 use Rattle.grammar.specs.Result.{number, beyond, plain, Res, got, bad, expect, seq}
 use Rattle.grammar.specs.Reader.{callArgument, builtinArgument, nameArgument}
 use Rattle.grammar.specs.Typed.{locationHere, typedName, typedArgument}
-use Rattle.grammar.specs.Records.{argumentRecord, argumentsOf, groupArguments, argumentRecords, simpleRecords, groupRecords, statementRecords, groupCount, statementCount, argumentCount}
+use Rattle.grammar.specs.Records.{argumentRecord, argumentsOf, argumentRecords, simpleRecords, statementRecords, statementCount, argumentCount}
 use Rattle.statements.specs.declared.argument.Argument.{Argument}
 use Rattle.statements.specs.declared.argument.Arg.{Arg}
 use Rattle.statements.specs.declared.argument.Arg.the-variants as arg
@@ -142,24 +142,15 @@ abbrev pub simpleAnswer : Tally → Res (List Simple) → Items
 simpleAnswer s (got ss k) = items.Done (tallied s k (length ss) (length (argumentsOf ss)))
 simpleAnswer s (bad y w) = items.Refused (number y) (w + beyond y)
 
--- label groups
-abbrev pub groupsAnswer : Tally → Res (List Group) → Items
-groupsAnswer s (got gs k) = items.Done (tallied s k (groupCount gs) (length (groupArguments gs)))
-groupsAnswer s (bad y w) = items.Refused (number y) (w + beyond y)
-
 -- a body
 abbrev pub bodyAnswer : Tally → Res Reading → Items
 bodyAnswer s (got r k) = items.Done (tallied s k (statementCount r) (argumentCount r))
 bodyAnswer s (bad y w) = items.Refused (number y) (w + beyond y)
 
--- units of statements as one list; one group as a list
+-- units of statements as one list
 abbrev pub flattened : Res (List (List Simple)) → Res (List Simple)
 flattened (got is k) = got (flatten is) k
 flattened (bad y w) = bad y w
-
-abbrev pub oneGroup : Res Group → Res (List Group)
-oneGroup (got g k) = got (g ∷ []) k
-oneGroup (bad y w) = bad y w
 
 -- the records that a reading puts into a table from number m on; after a refusal the entry zeroes the table, and nothing is said of it here
 abbrev pub Written : {A : Type 0} → ℕ → (A → List (List ℕ)) → Res A → ℕ → List ℕ → List ℕ → Type 0
@@ -184,15 +175,9 @@ pub record Parsed {A : Type 0} (answer : Tally → Res A → Items) (statements 
 abbrev pub simpleArguments : List Simple → List (List ℕ)
 simpleArguments ss = map argumentRecord (argumentsOf ss)
 
-abbrev pub groupsArguments : List Group → List (List ℕ)
-groupsArguments gs = map argumentRecord (groupArguments gs)
-
--- of statements that are no labels, of label groups, of a body
+-- of statements that are no labels, of a body
 abbrev pub SimpleParsed : Tally → ℕ → ℕ → ℕ → Res (List Simple) → List ℕ → List ℕ → Items → List ℕ → List ℕ → Type 0
 SimpleParsed = Parsed simpleAnswer simpleRecords simpleArguments
-
-abbrev pub GroupsParsed : Tally → ℕ → ℕ → ℕ → Res (List Group) → List ℕ → List ℕ → Items → List ℕ → List ℕ → Type 0
-GroupsParsed = Parsed groupsAnswer groupRecords groupsArguments
 
 abbrev pub BodyParsed : Tally → ℕ → ℕ → ℕ → Res Reading → List ℕ → List ℕ → Items → List ℕ → List ℕ → Type 0
 BodyParsed = Parsed bodyAnswer statementRecords argumentRecords

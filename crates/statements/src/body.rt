@@ -1,4 +1,4 @@
-// Bodies: the Rust's `parse_label` and `parse_body`. Each goes on from a tally, and i and a are the numbers of records before the lent tables.
+// Bodies: the Rust's `parse_label` and `parse_body`. Reading goes on from a tally, and i and a are the numbers of records before the lent tables.
 use crate::item::Items;
 use crate::item::Statement;
 use crate::item::Tally;
@@ -6,15 +6,15 @@ use crate::item::parse_item;
 use crate::item::put_statement;
 use tokens::kind_at;
 ghost use mathlib.Core.Path.{_≡_};
-ghost use mathlib.Core.List.{[]};
 ghost use lib.ListN.{length};
-ghost use Prim.Native.Nat.{_≤_};
+ghost use Prim.Native.Nat.{_+_, _≤_};
 ghost use Rattle.tokens.specs.Token.{Numbered};
 ghost use Rattle.grammar.specs.Rules.{base};
-ghost use Rattle.grammar.specs.Reader.{items, labelGroup, groups, bodyFrom};
-ghost use Rattle.statements.specs.Answers.{Counting, SimpleParsed, GroupsParsed, BodyParsed, flattened, oneGroup, tokensFrom};
+ghost use Rattle.grammar.specs.Reader.{items, bodyFrom};
+ghost use Rattle.statements.specs.Answers.{Counting, SimpleParsed, BodyParsed, flattened, tokensFrom};
+ghost use Rattle.tokens.specs.Table.{put};
 ghost use Rattle.statements.specs.Item.{Small};
-ghost use Rattle.statements.specs.Label.{skipped, LabelPut, LabelInside, closed, ClosedInside};
+ghost use Rattle.statements.specs.Label.{skipped, labelWords, labelOpened};
 
 // Items up to the next Label or CloseBrace.
 pub fn parse_items(
@@ -79,55 +79,39 @@ fn skip(s: Tally, n: usize, m: usize) -> Tally
     }
 }
 
-// The record of the label at s.at, written once its items are: only then its end and its inner count are known.
-fn put_label(statements: &mut [u32], s: Tally, i: usize, a: usize, inner: Items) -> Items
+// The record of the label at s.at, whose items are read up to t: only then its end and its inner count are known.
+fn put_label(statements: &mut [u32], s: Tally, i: usize, a: usize, t: Tally)
     requires { ⌜ Small s i a 0 0 0 ⌝ }
-    requires { ⌜ LabelInside s inner ⌝ }
-    ensures { λ r. ⌜ LabelPut (now (statements .entry)) s i a inner r (now (statements .exit)) ⌝ }
+    requires { ⌜ (s .statements + 1 ≤ t .statements) × (t .statements ≤ 65536) × (t .at ≤ 65536) ⌝ }
+    ensures { λ _. ⌜ now (statements .exit) ≡ put 8 (now (statements .entry)) (s .statements) (labelWords s i a t) ⌝ }
 {
-    match inner {
-        Items::Done(t) => {
-            let n = s.statements;
-            let first = s.at as u32;
-            let end = t.at as u32;
-            let own = (i + n + 1) as u32;
-            let count = (t.statements - (n + 1)) as u32;
-            let argument = (a + s.arguments) as u32;
-            put_statement(
-                statements,
-                n,
-                Statement {
-                    ty: 5,
-                    first: first,
-                    end: end,
-                    inner: own,
-                    inners: count,
-                    argument: argument,
-                    arguments: 0,
-                    place: first,
-                },
-            );
-            Items::Done(t)
-        }
-        Items::Refused(c, q) => Items::Refused(c, q),
-    }
+    let n = s.statements;
+    let first = s.at as u32;
+    let end = t.at as u32;
+    let own = (i + n + 1) as u32;
+    let count = (t.statements - (n + 1)) as u32;
+    let argument = (a + s.arguments) as u32;
+    put_statement(
+        statements,
+        n,
+        Statement {
+            ty: 5,
+            first: first,
+            end: end,
+            inner: own,
+            inners: count,
+            argument: argument,
+            arguments: 0,
+            place: first,
+        },
+    );
 }
 
-// A label with its items, up to the next Label or CloseBrace. A push takes no literal here.
-pub fn parse_label(
-    text: &[u8],
-    tokens: &[u32],
-    kept: &[u32],
-    s: Tally,
-    statements: &mut [u32],
-    arguments: &mut [u32],
-    i: usize,
-    a: usize,
-) -> Items
-    requires { ⌜ Counting (now tokens) (now kept) s i a ⌝ }
-    ensures { λ r. ⌜ GroupsParsed s i a (length (now (kept .entry)))
-        (oneGroup (labelGroup base [] (s .at) (tokensFrom (now (text .entry)) (now (tokens .entry)) (now (kept .entry)) (s .at))))
-        (now (statements .entry)) (now (arguments .entry)) r (now (statements .exit)) (now (arguments .exit)) ⌝ }
+// The Label at s.at and its Colon: the tally at its first item. The label's own record comes first in the table, and is counted here.
+fn open_label(tokens: &[u32], kept: &[u32], s: Tally) -> Items
+    requires { ⌜ Numbered (now tokens) (now kept) ⌝ }
+    requires { ⌜ (s .at ≤ 65536) × (s .statements ≤ 65536) ⌝ }
+    ensures { λ r. ⌜ r ≡ labelOpened (now (tokens .entry)) (now (kept .entry)) s ⌝ }
 {
     let at = s.at;
     if kind_at(tokens, kept, at) != 39 {
@@ -136,74 +120,11 @@ pub fn parse_label(
     if kind_at(tokens, kept, at + 1) != 36 {
         return Items::Refused(1, at + 1);
     }
-    // the label's own record comes first in the table
-    let inner = parse_items(
-        text,
-        tokens,
-        kept,
-        false,
-        6,
-        skip(s, 2, 1),
-        statements,
-        arguments,
-        i,
-        a,
-    );
-    put_label(statements, s, i, a, inner)
+    Items::Done(skip(s, 2, 1))
 }
 
-// Labels up to the body's brace.
-pub fn parse_groups(
-    text: &[u8],
-    tokens: &[u32],
-    kept: &[u32],
-    s: Tally,
-    statements: &mut [u32],
-    arguments: &mut [u32],
-    i: usize,
-    a: usize,
-) -> Items
-    requires { ⌜ Counting (now tokens) (now kept) s i a ⌝ }
-    ensures { λ r. ⌜ GroupsParsed s i a (length (now (kept .entry)))
-        (groups base (s .at) (tokensFrom (now (text .entry)) (now (tokens .entry)) (now (kept .entry)) (s .at)))
-        (now (statements .entry)) (now (arguments .entry)) r (now (statements .exit)) (now (arguments .exit)) ⌝ }
-{
-    let mut t = s;
-    loop {
-        let at = t.at;
-        if kind_at(tokens, kept, at) == 30 {
-            return Items::Done(t);
-        }
-        match parse_label(text, tokens, kept, t, statements, arguments, i, a) {
-            Items::Done(next) => {
-                t = next;
-            }
-            Items::Refused(c, q) => {
-                return Items::Refused(c, q);
-            }
-        }
-    }
-}
-
-// The body's brace behind what was read.
-fn close(tokens: &[u32], kept: &[u32], r: Items) -> Items
-    requires { ⌜ Numbered (now tokens) (now kept) ⌝ }
-    requires { ⌜ ClosedInside r ⌝ }
-    ensures { λ q. ⌜ q ≡ closed (now (tokens .entry)) (now (kept .entry)) r ⌝ }
-{
-    match r {
-        Items::Done(t) => {
-            let at = t.at;
-            if kind_at(tokens, kept, at) != 30 {
-                return Items::Refused(5, at);
-            }
-            Items::Done(skip(t, 1, 0))
-        }
-        Items::Refused(c, q) => Items::Refused(c, q),
-    }
-}
-
-// `{`, plain items, label groups, `}`.
+// `{`, plain items, label groups, `}`: the Rust's `parse_body` and `parse_label` in one loop, each turn of which reads items up to the next Label or CloseBrace. So
+// `parse_items` is called at one place, and the compiler makes one function of both: a call for each part of a body would cost a short one more than its items.
 pub fn parse_body(
     text: &[u8],
     tokens: &[u32],
@@ -223,22 +144,47 @@ pub fn parse_body(
     if kind_at(tokens, kept, at) != 29 {
         return Items::Refused(1, at);
     }
-    match parse_items(
-        text,
-        tokens,
-        kept,
-        true,
-        5,
-        skip(s, 1, 0),
-        statements,
-        arguments,
-        i,
-        a,
-    ) {
-        Items::Done(t) => {
-            let r = parse_groups(text, tokens, kept, t, statements, arguments, i, a);
-            close(tokens, kept, r)
+    let mut t = skip(s, 1, 0);
+    // the label whose items are read, once there is one: from then on a push takes no literal
+    let mut label = t;
+    let mut takes = true;
+    let mut wrong: u32 = 5;
+    loop {
+        match parse_items(
+            text,
+            tokens,
+            kept,
+            takes,
+            wrong,
+            t,
+            statements,
+            arguments,
+            i,
+            a,
+        ) {
+            Items::Refused(c, q) => {
+                return Items::Refused(c, q);
+            }
+            Items::Done(next) => {
+                if !takes {
+                    put_label(statements, label, i, a, next);
+                }
+                let p = next.at;
+                if kind_at(tokens, kept, p) == 30 {
+                    return Items::Done(skip(next, 1, 0));
+                }
+                match open_label(tokens, kept, next) {
+                    Items::Refused(d, w) => {
+                        return Items::Refused(d, w);
+                    }
+                    Items::Done(inside) => {
+                        label = next;
+                        t = inside;
+                        takes = false;
+                        wrong = 6;
+                    }
+                }
+            }
         }
-        Items::Refused(c, q) => Items::Refused(c, q),
     }
 }
