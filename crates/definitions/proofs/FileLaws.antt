@@ -364,7 +364,7 @@ module _ {text words kept de₀ st₀ ar₀ marks₀ places₀ hashes₀ de st a
             → Loop text words kept de₀ st₀ ar₀ marks₀ places₀ hashes₀ de′ st′ ar′ marks′ places′ hashes′ (f .at) (d + 1) (i + f .statements) (a + f .arguments) (m + 1)
         loop-macro n {b} {marks′} {places′} {hashes′} told new x y z =
             let noting : Noting false (view text words kept) (tokenAt (view text words kept) (f .name) .text) places m marks′ places′ hashes′ (suc m) = rw new at (told .then) in
-            let long : p + 8 ≤ f .at = rw n at (bounds .4) in
+            let long : (p + 8 ≤ f .at) × (f .name < f .at) = rw n at (bounds .4) in
             rw (add-one m)
             record {
               ends =
@@ -377,7 +377,7 @@ module _ {text words kept de₀ st₀ ar₀ marks₀ places₀ hashes₀ de st a
               definitions = omega (arith, bounds .0, loop .definitions);
               statements = omega (arith, bounds .2, loop .statements);
               arguments = omega (arith, bounds .3, loop .arguments);
-              names = omega (arith, long, loop .names);
+              names = omega (arith, long .0, loop .names);
               same-definitions = de-kept ∙ loop .same-definitions;
               same-statements = st-kept ∙ loop .same-statements;
               same-arguments = ar-kept ∙ loop .same-arguments;

@@ -386,11 +386,11 @@ module _ (kind first name p : ℕ) (all : List Token) where
         (as-stops (sym (head-group sort p (drop p all))) (seq-stops headFrom (behindEquals sort) p (drop p all) (list-stops _ h))))
 
     -- the declared arguments come first, and the body's behind them
-    pub macro-read : {n q : ℕ} {r : DefRead} → MacroKind kind → ListRead 0 p size (headFrom p (drop p all)) ar (lists.Done n q) ar₁
+    pub macro-read : {n q : ℕ} {r : DefRead} → name ≤ p → MacroKind kind → ListRead 0 p size (headFrom p (drop p all)) ar (lists.Done n q) ar₁
         → TailParsed kind first name n q i a size (tailFrom q (drop q all)) de st ar₁ r de′ st′ ar′
         → DefParsed 5 all p i a size (behindName first name all (macroRest base (macroSort kind)) p) de st ar r de′ st′ ar′
     unfolding behindName definitionRecord formCount formArguments formStatements argumentCount argumentRecords
-    macro-read {n} {q} {r} k h t = go (list-got _ h) (tailFrom q (drop q all)) refl t
+    macro-read {n} {q} {r} before k h t = go (list-got _ h) (tailFrom q (drop q all)) refl t
       where
         go : ListGot p (headFrom p (drop p all)) ar n q ar₁ → (x : Res ((ℕ × ℕ) × Reading)) → tailFrom q (drop q all) ≡ x
             → TailParsed kind first name n q i a size x de st ar₁ r de′ st′ ar′
@@ -418,7 +418,7 @@ module _ (kind first name p : ℕ) (all : List Token) where
                   ∙ sym (putAll-append 7 ar 0 (map argumentRecord args) (map argumentRecord (allArguments (x .1))))
                   ∙ ap (putAll 7 ar 0) (sym (map-append argumentRecord args (allArguments (x .1))));
               name = refl;
-              within = rw (t .is) (omega arith, omega arith, omega arith, omega arith, omega (arith, g .ends));
+              within = rw (t .is) (omega arith, omega arith, omega arith, omega arith, (omega (arith, g .ends), omega (arith, g .ends)));
             })
         go g (bad y w) e t =
             rw (t .is)

@@ -46,12 +46,12 @@ one-more {least} {p = p} {q} {size = size} (got d k) {r} e h =
       within = nearer r (h .within);
     }
   where
-    longer : (b : Bool) (end : ℕ) → Long least b q end → Long (suc least) b p end
-    longer true end h = omega arith
-    longer false end h = tt
+    longer : (b : Bool) (name end : ℕ) → Long least b name q end → Long (suc least) b name p end
+    longer true name end h = (omega arith, h .1)
+    longer false name end h = tt
 
     nearer : (r : DefRead) → DefWithin least q size r → DefWithin (suc least) p size r
-    nearer (defs.Done f) w = (omega arith, w .1, omega arith, omega arith, longer (f .named) (f .at) (w .4))
+    nearer (defs.Done f) w = (omega arith, w .1, omega arith, omega arith, longer (f .named) (f .name) (f .at) (w .4))
     nearer (defs.Refused c w) h = tt
 one-more (bad y w) e h = record { is = h .is; definitionTable = tt; statementTable = tt; argumentTable = tt; name = tt; within = rw (h .is) tt }
 

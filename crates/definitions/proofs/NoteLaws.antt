@@ -1,15 +1,14 @@
 -- Laws of remembered names: the hash by four bytes and by those that are left, bits, the marks, the walk a name at a time, a bit that is not set, one name
 -- more. Assumes nothing.
-use Prim.Native.Nat.{ℕ, zero, suc, _+_, _-_, _*_, _/_, _%_, _^_, _≤_, _<_, zero-le, min, max}
+use Prim.Native.Nat.{ℕ, zero, suc, _+_, _-_, _*_, _/_, _%_, _≤_, _<_, zero-le, min, max}
 use mathlib.Core.Path.{_≡_, refl, sym, ap, _∙_}
 use mathlib.Core.Bool.{Bool, true, false}
 use mathlib.Core.List.{List, [], _∷_}
 use mathlib.Core.Logic.{⊎-elim}
 use native.Mathlib.Omega.{arith}
-use native.Mathlib.Numerals.{add-one}
-use native.Mathlib.Nat.{eq-or-lt-of-le, le-trans, pow-suc, pow-le-pow-right}
+use native.Mathlib.Nat.{eq-or-lt-of-le, le-trans}
 use borrow.Author.Tests.{eqb-true, eqb-false}
-use lib.Dec.{eqb, lit<}
+use lib.Dec.{eqb}
 use lib.Arith.{bin-ind}
 use lib.Pow.{pow-pos}
 use lib.Bits.{bitAnd, bitOr, and-step, or-step, or-shr, and-le-r, and-self}
@@ -20,7 +19,7 @@ use Rattle.tokens.specs.Byte.{same}
 use Rattle.tokens.specs.Name.{oneOf}
 use Rattle.tokens.proofs.NameLaws.{same-equal}
 use Rattle.tokens.proofs.ViewLaws.{view-text}
-use Rattle.definitions.specs.Names.{mixed, fourAt, hashFrom, hashOf, markByte, markBit, setBit, mark, nameAt, namesAt, Noted, Noting}
+use Rattle.definitions.specs.Names.{mixed, fourAt, restOf, hashFrom, hashOf, markByte, markBit, setBit, mark, nameAt, namesAt, Noted, Noting}
 
 -- ---- the hash
 
@@ -28,64 +27,56 @@ pub mixed-small : (h : ℕ) → mixed h < 4294967296
 unfolding mixed
 mixed-small h = omega arith
 
+-- the bytes from j on are the one at j and those behind it
+next-byte : (name : List ℕ) (j k : ℕ) → j < length name → k ≡ suc j → drop j name ≡ getD name j 0 ∷ drop k name
+next-byte name j k lt e = rw e (drop-cons name j 0 lt)
+
+three-bytes : (i : ℕ) (name : List ℕ) → i + 3 ≤ length name → drop i name ≡ getD name i 0 ∷ getD name (i + 1) 0 ∷ getD name (i + 2) 0 ∷ drop (i + 3) name
+three-bytes i name le =
+    next-byte name i (i + 1) (omega arith) (omega arith)
+    ∙ ap (λ (l : List ℕ). getD name i 0 ∷ l)
+    (next-byte name (i + 1) (i + 2) (omega arith) (omega arith)
+    ∙ ap (λ (l : List ℕ). getD name (i + 1) 0 ∷ l) (next-byte name (i + 2) (i + 3) (omega arith) (omega arith)))
+
 -- four bytes more
 pub hash-four : (h i : ℕ) (name : List ℕ) → i + 4 ≤ length name → hashFrom (mixed (h + fourAt name i)) (drop (i + 4) name) ≡ hashFrom h (drop i name)
 unfolding hashFrom
-hash-four h i name le = rw four refl
-  where
-    next : (j k : ℕ) → j < length name → k ≡ suc j → drop j name ≡ getD name j 0 ∷ drop k name
-    next j k lt e = rw e (drop-cons name j 0 lt)
+hash-four h i name le = rw (three-bytes i name (omega arith), next-byte name (i + 3) (i + 4) (omega arith) (omega arith)) refl
 
-    four : drop i name ≡ getD name i 0 ∷ getD name (i + 1) 0 ∷ getD name (i + 2) 0 ∷ getD name (i + 3) 0 ∷ drop (i + 4) name
-    four =
-        next i (i + 1) (omega arith) (omega arith)
-        ∙ ap (λ (l : List ℕ). getD name i 0 ∷ l)
-        (next (i + 1) (i + 2) (omega arith) (omega arith)
-        ∙ ap (λ (l : List ℕ). getD name (i + 1) 0 ∷ l)
-        (next (i + 2) (i + 3) (omega arith) (omega arith)
-        ∙ ap (λ (l : List ℕ). getD name (i + 2) 0 ∷ l) (next (i + 3) (i + 4) (omega arith) (omega arith))))
+-- none, one, two or three bytes are left
+pub rest-none : (i : ℕ) (name : List ℕ) → length name ≤ i → 0 ≡ restOf (drop i name)
+unfolding restOf
+rest-none i name le = rw (drop-of-length-le name le) refl
 
--- a number and the bytes behind it as one number, the last one lowest
-unfoldable pub restFrom : ℕ → List ℕ → ℕ
-restFrom r [] = r
-restFrom r (b ∷ bs) = restFrom (r * 2048 + b) bs
+pub rest-one : (i : ℕ) (name : List ℕ) → length name ≡ i + 1 → getD name i 0 ≡ restOf (drop i name)
+unfolding restOf
+rest-one i name e = rw (next-byte name i (i + 1) (omega arith) (omega arith), drop-of-length-le name {i = i + 1} (omega arith)) refl
 
--- one byte more
-pub rest-one : (r i : ℕ) (name : List ℕ) → i < length name → restFrom (r * 2048 + getD name i 0) (drop (i + 1) name) ≡ restFrom r (drop i name)
-unfolding restFrom
-rest-one r i name lt = rw (add-one i, drop-cons name i 0 lt) refl
+pub rest-two : (i : ℕ) (name : List ℕ) → length name ≡ i + 2 → getD name i 0 * 2048 + getD name (i + 1) 0 ≡ restOf (drop i name)
+unfolding restOf
+rest-two i name e =
+    rw
+    (next-byte name i (i + 1) (omega arith) (omega arith), next-byte name (i + 1) (i + 2) (omega arith) (omega arith), drop-of-length-le name {i = i + 2} (omega arith))
+    refl
 
--- how large the number is then
-pub rest-grows : (r a i j : ℕ) → j ≤ i → a ≤ 255 → r < 2048 ^ (i - j) → r * 2048 + a < 2048 ^ (i + 1 - j)
-rest-grows r a i j le byte lt = rw (next i j le, pow-suc 2048 (i - j)) (omega arith)
-  where
-    next : (i j : ℕ) → j ≤ i → i + 1 - j ≡ suc (i - j)
-    next i j le = omega arith
-
--- that of three bytes is small
-pub rest-small : (r k : ℕ) → k ≤ 3 → r < 2048 ^ k → r < 8589934592
-rest-small r k le lt = le-trans lt (pow-le-pow-right (lit< tt) le)
+pub rest-three : (i : ℕ) (name : List ℕ) → i + 3 ≤ length name → (getD name i 0 * 2048 + getD name (i + 1) 0) * 2048 + getD name (i + 2) 0 ≡ restOf (drop i name)
+unfolding restOf
+rest-three i name le = rw (three-bytes i name le) refl
 
 -- fewer than four bytes are left
-few : (h : ℕ) (bs : List ℕ) → length bs < 4 → mixed (h + restFrom 0 bs) ≡ hashFrom h bs
-unfolding hashFrom restFrom
-few h [] lt = ap mixed (omega arith)
-few h (a ∷ []) lt = ap mixed (omega arith)
-few h (a ∷ b ∷ []) lt = ap mixed (omega arith)
-few h (a ∷ b ∷ c ∷ []) lt = ap mixed (omega arith)
+few : (h : ℕ) (bs : List ℕ) → length bs < 4 → mixed (h + restOf bs) ≡ hashFrom h bs
+unfolding hashFrom
+few h [] lt = refl
+few h (a ∷ []) lt = refl
+few h (a ∷ b ∷ []) lt = refl
+few h (a ∷ b ∷ c ∷ []) lt = refl
 few h (a ∷ b ∷ c ∷ d ∷ bs) lt = absurd (none (length bs) lt)
   where
     none : (n : ℕ) → suc (suc (suc (suc n))) < 4 → ⊥
     none n lt = omega arith
 
--- they are put together from j on up to i, where none is left
-pub hash-end : (h r i j : ℕ) (name : List ℕ) → length name ≤ i → length name < j + 4 → restFrom r (drop i name) ≡ restFrom 0 (drop j name)
-    → mixed (h + r) ≡ hashFrom h (drop j name)
-unfolding restFrom
-hash-end h r i j name end lt e = ap (λ (x : ℕ). mixed (h + x)) (rw (drop-of-length-le name end) at e) ∙ few h (drop j name) left
-  where
-    left : length (drop j name) < 4
-    left = let e = length-drop j name in omega arith
+pub hash-end : (h i : ℕ) (name : List ℕ) → length name < i + 4 → mixed (h + restOf (drop i name)) ≡ hashFrom h (drop i name)
+hash-end h i name lt = few h (drop i name) (omega (arith, length-drop i name))
 
 -- ---- bits
 

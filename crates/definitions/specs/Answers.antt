@@ -59,14 +59,14 @@ abbrev pub NameStands : List Token → Res Definition → Type 0
 NameStands all (got d k) = d .token ≡ tokenAt all (d .name)
 NameStands all (bad y w) = Unit {0}
 
--- a macro, fn or test takes at least so many tokens from p on
-abbrev pub Long : ℕ → Bool → ℕ → ℕ → Type 0
-Long least true p e = p + least ≤ e
-Long least false p e = Unit {0}
+-- a macro, fn or test takes at least so many tokens from p on, and its name stands before its end
+abbrev pub Long : ℕ → Bool → ℕ → ℕ → ℕ → Type 0
+Long least true name p e = (p + least ≤ e) × (name < e)
+Long least false name p e = Unit {0}
 
 abbrev pub DefWithin : ℕ → ℕ → ℕ → DefRead → Type 0
 DefWithin least p size (defs.Done f) =
-    (p < f .at) × (f .at ≤ size) × (f .statements + p ≤ f .at) × (f .arguments + p ≤ f .at) × Long least (f .named) p (f .at)
+    (p < f .at) × (f .at ≤ size) × (f .statements + p ≤ f .at) × (f .arguments + p ≤ f .at) × Long least (f .named) (f .name) p (f .at)
 DefWithin least p size (defs.Refused c q) = Unit {0}
 
 -- what a definition's reader promises: its answer, the three tables, and bounds. The shortest macro, `#define macro M() = {}`, has 8 tokens from Define on, 7

@@ -21,12 +21,19 @@ fourOf a b c d = a + b * 256 + c * 65536 + d * 16777216
 abbrev pub fourAt : List ℕ → ℕ → ℕ
 fourAt name i = fourOf (getD name i 0) (getD name (i + 1) 0) (getD name (i + 2) 0) (getD name (i + 3) 0)
 
+-- fewer than four bytes as one number, the last one lowest
+unfoldable pub restOf : List ℕ → ℕ
+restOf [] = 0
+restOf (a ∷ []) = a
+restOf (a ∷ b ∷ []) = a * 2048 + b
+restOf (a ∷ b ∷ c ∷ bs) = (a * 2048 + b) * 2048 + c
+
 -- a number below 2 ^ 32 for every list of bytes, four at a time and those that are left together; which number it is is of no account but for speed
 unfoldable pub hashFrom : ℕ → List ℕ → ℕ
-hashFrom h [] = mixed h
-hashFrom h (a ∷ []) = mixed (h + a)
-hashFrom h (a ∷ b ∷ []) = mixed (h + (a * 2048 + b))
-hashFrom h (a ∷ b ∷ c ∷ []) = mixed (h + ((a * 2048 + b) * 2048 + c))
+hashFrom h [] = mixed (h + restOf [])
+hashFrom h (a ∷ []) = mixed (h + restOf (a ∷ []))
+hashFrom h (a ∷ b ∷ []) = mixed (h + restOf (a ∷ b ∷ []))
+hashFrom h (a ∷ b ∷ c ∷ []) = mixed (h + restOf (a ∷ b ∷ c ∷ []))
 hashFrom h (a ∷ b ∷ c ∷ d ∷ bs) = hashFrom (mixed (h + fourOf a b c d)) bs
 
 -- that of a name

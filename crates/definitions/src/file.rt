@@ -65,7 +65,7 @@ pub fn parse(
     statements: &mut [u32],
     arguments: &mut [u32],
     marks: &mut [u8],
-    places: &mut [usize],
+    places: &mut [u32],
     hashes: &mut [u32],
 ) -> FileRead
     requires { ⌜ Readable (now tokens) (now kept) (now marks) (now places) (now hashes) ⌝ }
@@ -135,7 +135,7 @@ fn parse_few(
         (now (definitions .exit)) (now (statements .exit)) (now (arguments .exit)) ⌝ }
 {
     let mut marks = [0u8; 512];
-    let mut places = [0usize; 192];
+    let mut places = [0u32; 192];
     let mut hashes = [0u32; 192];
     parse(
         text,
@@ -166,7 +166,7 @@ fn parse_some(
         (now (definitions .exit)) (now (statements .exit)) (now (arguments .exit)) ⌝ }
 {
     let mut marks = [0u8; 4096];
-    let mut places = [0usize; 1536];
+    let mut places = [0u32; 1536];
     let mut hashes = [0u32; 1536];
     parse(
         text,
@@ -196,7 +196,7 @@ fn parse_many(
         (now (definitions .exit)) (now (statements .exit)) (now (arguments .exit)) ⌝ }
 {
     let mut marks = [0u8; 16384];
-    let mut places = [0usize; 8192];
+    let mut places = [0u32; 8192];
     let mut hashes = [0u32; 8192];
     parse(
         text,

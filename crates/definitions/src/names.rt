@@ -9,10 +9,10 @@ use tokens::text_at;
 ghost use Prim.Native.Nat.{_+_, _%_, _^_, _≤_, _<_};
 ghost use mathlib.Core.Path.{_≡_};
 ghost use mathlib.Core.Bool.{true, false};
-ghost use lib.ListN.{length, set};
+ghost use lib.ListN.{length, drop, set};
 ghost use Rattle.tokens.specs.Token.{view, tokenAt, Numbered};
 ghost use Rattle.tokens.specs.Name.{oneOf};
-ghost use Rattle.definitions.specs.Names.{mixed, fourAt, hashOf, markByte, mark, namesAt, Noted, Checked};
+ghost use Rattle.definitions.specs.Names.{mixed, fourAt, restOf, hashOf, markByte, mark, namesAt, Noted, Checked};
 
 // A number mixed into the next hash: what stands in the low bits reaches the high ones by the product, and what stands in the high bits of it reaches
 // the low ones by the quotient. Both moduli and the divisor are powers of two, so that they cost no division.
@@ -34,8 +34,22 @@ fn four(name: &[u8], i: usize) -> u64
         + name[i + 3] as u64 * 16777216
 }
 
-// The hash of a name: four bytes at a time, which cost one load and one product, then those that are left, which cost one product together. By 2048 and not by
-// 256: counted over numbered names, fewer of them meet in both marks.
+// The bytes from i on, fewer than four, as one number. By cases and not by a loop, which would cost a short name more than its bytes; by 2048 and not by 256, since
+// counted over numbered names fewer of them meet in both marks.
+fn rest(name: &[u8], i: usize) -> u64
+    requires { ⌜ (i ≤ length (now name)) × (length (now name) < i + 4) ⌝ }
+    ensures { λ r. ⌜ r ≡ restOf (drop i (now (name .entry))) ⌝ }
+    ensures { λ r. ⌜ r ≤ 4294967295 ⌝ }
+{
+    match name.len() - i {
+        0 => 0,
+        1 => name[i] as u64,
+        2 => name[i] as u64 * 2048 + name[i + 1] as u64,
+        _ => (name[i] as u64 * 2048 + name[i + 1] as u64) * 2048 + name[i + 2] as u64,
+    }
+}
+
+// The hash of a name: four bytes at a time, which cost one load and one product, then those that are left, which cost one product together.
 fn hash_of(name: &[u8]) -> u32
     ensures { λ r. ⌜ r ≡ hashOf (now (name .entry)) ⌝ }
 {
@@ -46,12 +60,7 @@ fn hash_of(name: &[u8]) -> u32
         h = mix(h + four(name, i));
         i += 4;
     }
-    let mut rest: u64 = 0;
-    while i < n {
-        rest = rest * 2048 + name[i] as u64;
-        i += 1;
-    }
-    mix(h + rest) as u32
+    mix(h + rest(name, i)) as u32
 }
 
 // The byte of a hash's mark in the first half of so many, by its low bits but three: a mask, and no division, where the size is a power of two.
@@ -88,7 +97,7 @@ fn is_remembered(
     name: &[u8],
     h: u32,
     marks: &[u8],
-    places: &[usize],
+    places: &[u32],
     hashes: &[u32],
     n: usize,
 ) -> bool
@@ -101,7 +110,7 @@ fn is_remembered(
     while 0 < i {
         i -= 1;
         if hashes[i] == h {
-            if same_name(text_at(text, tokens, kept, places[i]), name) {
+            if same_name(text_at(text, tokens, kept, places[i] as usize), name) {
                 return true;
             }
         }
@@ -117,7 +126,7 @@ fn is_repeated(
     name: &[u8],
     h: u32,
     marks: &[u8],
-    places: &[usize],
+    places: &[u32],
     hashes: &[u32],
     n: usize,
 ) -> bool
@@ -138,8 +147,9 @@ fn is_repeated(
 }
 
 // The name at place p, whose hash is h, is number n from now on.
-fn remember(p: usize, h: u32, marks: &mut [u8], places: &mut [usize], hashes: &mut [u32], n: usize)
+fn remember(p: usize, h: u32, marks: &mut [u8], places: &mut [u32], hashes: &mut [u32], n: usize)
     requires { ⌜ (2 ≤ length (now marks)) × (n < length (now places)) × (n < length (now hashes)) ⌝ }
+    requires { ⌜ p ≤ 65536 ⌝ }
     ensures { λ _. ⌜ (now (marks .exit) ≡ mark (now (marks .entry)) h)
         × (now (places .exit) ≡ set (now (places .entry)) n p)
         × (now (hashes .exit) ≡ set (now (hashes .entry)) n h) ⌝ }
@@ -148,7 +158,7 @@ fn remember(p: usize, h: u32, marks: &mut [u8], places: &mut [usize], hashes: &m
     marks[low] = marks[low] | bit_of(h);
     let high = high_byte(h, marks.len());
     marks[high] = marks[high] | bit_of(h / 65536);
-    places[n] = p;
+    places[n] = p as u32;
     hashes[n] = h;
 }
 
@@ -159,13 +169,14 @@ pub fn check_duplicate_macro(
     kept: &[u32],
     p: usize,
     marks: &mut [u8],
-    places: &mut [usize],
+    places: &mut [u32],
     hashes: &mut [u32],
     n: usize,
 ) -> bool
     requires { ⌜ Numbered (now tokens) (now kept) ⌝ }
     requires { ⌜ Noted (view (now text) (now tokens) (now kept)) (now marks) (now places) (now hashes) n ⌝ }
     requires { ⌜ (n < length (now places)) × (n < length (now hashes)) ⌝ }
+    requires { ⌜ p ≤ 65536 ⌝ }
     ensures { λ r. ⌜ Checked (view (now (text .entry)) (now (tokens .entry)) (now (kept .entry)))
         (tokenAt (view (now (text .entry)) (now (tokens .entry)) (now (kept .entry))) p .text) (now (places .entry)) n r
         (now (marks .exit)) (now (places .exit)) (now (hashes .exit)) ⌝ }

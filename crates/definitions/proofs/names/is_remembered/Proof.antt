@@ -36,6 +36,9 @@ mul-text-at c = search needs
 shared-slice-read-text-at : tie.Need-shared-slice-read-text-at Inv-loop μ-loop
 shared-slice-read-text-at c = search needs
 
+cast-text-at : tie.Need-cast-text-at Inv-loop μ-loop
+cast-text-at c = omega (arith, c .shared-slice-known9 .given (c .before .before .before .before .loop .i - 1))
+
 text-at-requires : tie.Need-text-at-requires Inv-loop μ-loop
 text-at-requires c κs = search needs
 
@@ -87,6 +90,7 @@ is-remembered-spec =
     shared-slice-read-if1
     mul-text-at
     shared-slice-read-text-at
+    cast-text-at
     text-at-requires
     same-name-requires
     returns

@@ -30,6 +30,9 @@ bit-of-requires-2 c κs = search needs
 slice-write-marks-2 : tie.Need-slice-write-marks-2
 slice-write-marks-2 c = search needs
 
+cast-places : tie.Need-cast-places
+cast-places c = search needs
+
 mul-places : tie.Need-mul-places
 mul-places c = search needs
 
@@ -71,6 +74,7 @@ remember-spec =
     slice-read-marks-2
     bit-of-requires-2
     slice-write-marks-2
+    cast-places
     mul-places
     slice-write-places
     mul-hashes
