@@ -120,11 +120,11 @@ fn whole_good(text: &[u8], tokens: &[u32]) -> bool
     if 1048576 < text.len() {
         return false;
     }
-    if tokens.len() % 4 != 0 {
-        return false;
-    }
     let n = tokens.len() / 4;
     if n == 0 {
+        return false;
+    }
+    if tokens.len() % 4 != 0 {
         return false;
     }
     n <= 65536
