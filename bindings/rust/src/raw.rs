@@ -1,6 +1,6 @@
 //! The archive's two functions over slices, as they are: the caller lends every list and reads the five numbers.
 //!
-//! A call takes up to about 150 KB of stack. Calls share nothing, so threads may call at once.
+//! A call takes up to about 100 KB of stack. Calls share nothing, so threads may call at once.
 
 #![allow(unsafe_code)]
 
