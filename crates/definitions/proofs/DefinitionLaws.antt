@@ -9,44 +9,40 @@ use mathlib.Core.List.{List, [], _∷_, _++_, map, append-nil, map-append}
 use borrow.Author.Tests.{eq-eqb, ne-eqb}
 use lib.ListN.{length, drop, length-append, length-map}
 use Rattle.tokens.specs.Token.{Token, tokenAt}
-use Rattle.tokens.specs.Table.{put, putAll}
+use Rattle.tokens.specs.Number.{definitionWidth, argumentWidth}
+use Rattle.tokens.specs.Lent.{put, putAll}
 use Rattle.tokens.specs.Kind.{Include, Define, Constant, Returns, View, Pure, Payable, NonPayable, Assign, FreeStoragePointer, Ident, Literal, Str}
-use Rattle.tokens.proofs.TableLaws.{putAll-append}
+use Rattle.tokens.proofs.LentLaws.{putAll-append}
 use Rattle.grammar.specs.Reading.{Argument}
 use Rattle.grammar.specs.Result.{Why, plain, Res, got, bad, Step, refuse, taken, stepped, oneMore, choose, counted, joined, expect, seq}
 use Rattle.grammar.specs.Typed.{typedArgument}
 use Rattle.grammar.specs.Rules.{base}
 use Rattle.grammar.specs.Records.{argumentRecord}
-use Rattle.grammar.specs.FileReading.{Value, literalAt, pointerAt, Form, anImport, aFunction, anEvent, anError, aDefinedConstant, Definition}
+use Rattle.grammar.specs.FileReading.{Value, literalAt, pointerAt, Form, anImport, aFunction, anEvent, anError, aDefinedConstant, aMacro, aTable, Definition}
 use Rattle.grammar.specs.FileReader.{named, parseArgs, functionType, functionRest, parseImports, constantValue, constantRest, parseConstant, byKind, kindTable, topTable, parseDefinition, topLevel}
-use Rattle.grammar.specs.FileRecords.{kindNumber, formArguments, formCount, formStatements, valueWords, definitionRecord}
+use Rattle.grammar.specs.FileRecords.{importNumber, kindNumber, formArguments, formCount, formStatements, valueWords, definitionRecord}
 use Rattle.grammar.proofs.AtPlace.{seq-got, seq-bad}
-use Rattle.statements.specs.Answers.{one, ListRead, ListWithin}
-use Rattle.statements.specs.declared.argument.Sort.{Sort}
-use Rattle.statements.specs.declared.argument.Sort.the-variants.{Call, Builtin, Macro, Typed, Event}
-use Rattle.statements.specs.declared.list.ArgList.{ArgList}
-use Rattle.statements.specs.declared.list.ArgList.the-variants as lists
+use Rattle.lists.specs.Answers.{one, ListRead, ListWithin}
+use Rattle.lists.specs.declared.list.ArgList.{ArgList}
+use Rattle.lists.specs.declared.list.ArgList.the-variants as lists
 use Rattle.definitions.specs.declared.record.DefRead.{DefRead}
 use Rattle.definitions.specs.declared.record.DefRead.the-variants as defs
 use Rattle.definitions.specs.declared.head.Head.the-variants as heads
 use Rattle.definitions.specs.declared.signature.Signature.{Signature}
 use Rattle.definitions.specs.declared.signature.Behind.{Behind}
 use Rattle.definitions.specs.declared.signature.Behind.the-variants as behinds
-use Rattle.definitions.specs.Answers.{DefParsed}
-use Rattle.definitions.specs.Pieces.{Small, RefusedRead, Headed, Bodiless, Signed, SignatureRead, listNumber, listForm, listRest, TypeRead, outputsRest, Outputs, OutputsRead, Fitting, SignatureFits, SignaturePut}
+use Rattle.grammar.specs.Written.{RefusedRead}
+use Rattle.definitions.specs.declared.record.Definition as code
+use Rattle.definitions.specs.declared.signature.Listed.{Listed}
+use Rattle.definitions.specs.declared.signature.Listed.the-variants.{Event, Error}
+use Rattle.definitions.specs.Answers.{definitionWords, codeDefinition, isNamed, DefParsed, DefAdded}
+use Rattle.definitions.proofs.HeadLaws.{refused-parsed, named-is}
+use Rattle.definitions.specs.Pieces.{Headed, Bodiless, Signed, SignatureRead, listSort, listNumber, listForm, listRest, TypeRead, outputsRest, Outputs, OutputsRead, Fitting, SignatureFits, signatureOf, signatureAnswer}
 use Rattle.definitions.specs.declared.constant.ConstVal.{ConstVal}
 use Rattle.definitions.specs.declared.constant.ConstVal.the-variants as constvals
 use Rattle.definitions.specs.declared.constant.ConstantDefinition.{ConstantDefinition}
-use Rattle.definitions.specs.Constant.{valueOf, Valued, ConstantGot, ConstantFits, constantWords}
-use Rattle.statements.proofs.At.{token-here, choose-none, NoneOf, look-table, expect-yes, expect-no}
-
--- ---- what a reading is, as the code answers it
-
--- a refused reading
-pub refused-parsed : {least : ℕ} {all : List Token} {p i a size c q : ℕ} {read : Res Definition} {de st ar de′ st′ ar′ : List ℕ} {r : DefRead} → RefusedRead read c q → r ≡ defs.Refused c q
-    → DefParsed least all p i a size read de st ar r de′ st′ ar′
-refused-parsed {c = c} {q = q} h e =
-    rw (h .is, e, h .numbered, h .cursor) (record { is = refl; definitionTable = tt; statementTable = tt; argumentTable = tt; name = tt; within = tt })
+use Rattle.definitions.specs.Constant.{valueOf, placeOf, Valued, ConstantGot, ConstantFits, valueType, constantOf}
+use Rattle.lists.proofs.At.{token-here, choose-none, NoneOf, look-table, expect-yes, expect-no}
 
 -- one that is refused at its own place
 pub refused-plain : {A : Type 0} {c q : ℕ} {read : Res A} → read ≡ bad (plain c) q → RefusedRead read c q
@@ -55,44 +51,40 @@ refused-plain {c = c} {q = q} e = record { why = plain c; place = q; is = e; num
 pub refused-same : {A B : Type 0} {c q : ℕ} {read : Res A} {other : Res B} → RefusedRead read c q → ((y : Why) (w : ℕ) → read ≡ bad y w → other ≡ bad y w) → RefusedRead other c q
 refused-same h f = record { why = h .why; place = h .place; is = f (h .why) (h .place) (h .is); numbered = h .numbered; cursor = h .cursor }
 
-found-same : {a b c d a′ b′ c′ d′ : ℕ} {q q′ : Bool} → a ≡ a′ → b ≡ b′ → c ≡ c′ → d ≡ d′ → q ≡ q′
-    → _≡_ {A = DefRead} (defs.Done (record { at = a; statements = b; arguments = c; name = d; named = q })) (defs.Done (record { at = a′; statements = b′; arguments = c′; name = d′; named = q′ }))
-found-same e f g h k = rw (e, f, g, h, k)
-
--- the words of a definition without statements
-words-are : {i a kind ins outs x y : ℕ} (d : Definition) → Bodiless (d .form) ins outs x y → kindNumber (d .form) ≡ kind
-    → kind ∷ d .name ∷ d .first ∷ d .end ∷ a ∷ ins ∷ (a + ins) ∷ outs ∷ i ∷ 0 ∷ x ∷ y ∷ [] ≡ definitionRecord i a d
-unfolding definitionRecord
-words-are d b k = rw (← k, ← b .inputs, ← b .outputs, b .none, b .last)
+-- a definition without statements
+definition-is : {i a kind ins outs x y : ℕ} (d : Definition) → Bodiless (d .form) ins outs x y → kindNumber (d .form) ≡ kind
+    → _≡_ {A = code.Definition} (record { kind = kind; name = d .name; first = d .first; end = d .end; argument = a; arguments = ins; output = a + ins; outputs = outs; statement = i; statements = 0; a = x; b = y }) (codeDefinition i a d)
+definition-is d b k = rw (← k, ← b .inputs, ← b .outputs, b .none, b .last)
 
 -- its arguments are its inputs and outputs
 arguments-are : {ins outs x y : ℕ} (f : Form) → Bodiless f ins outs x y → ins + outs ≡ length (formArguments f)
 unfolding formArguments
 arguments-are f b = rw (length-append, length-append, b .inputs, b .outputs, b .inner, add-zero)
 
--- a definition without statements
-pub bodiless-parsed : {least : ℕ} {all : List Token} {p i a size n kind ins outs x y name first e : ℕ} {read : Res Definition} {de st ar de′ ar′ : List ℕ} {r : DefRead} {form : Form}
+-- as it is answered
+pub bodiless-parsed : {least : ℕ} {all : List Token} {p i a size n kind ins outs x y name first e : ℕ} {read : Res Definition} {st ar ar′ : List ℕ} {r : DefRead} {form : Form}
     → read ≡ got (record { first = first; end = e; name = name; token = tokenAt all name; form = form }) n
     → Bodiless form ins outs x y
     → kindNumber form ≡ kind
     → e ≡ p + n
-    → r ≡ defs.Done (record { at = e; statements = 0; arguments = ins + outs; name = name; named = false })
-    → de′ ≡ put 12 de 0 (kind ∷ name ∷ first ∷ e ∷ a ∷ ins ∷ (a + ins) ∷ outs ∷ i ∷ 0 ∷ x ∷ y ∷ [])
-    → ar′ ≡ putAll 7 ar 0 (map argumentRecord (formArguments form))
+    → r ≡ defs.Done (record { kind = kind; name = name; first = first; end = e; argument = a; arguments = ins; output = a + ins; outputs = outs; statement = i; statements = 0; a = x; b = y }) (ins + outs)
+    → ar′ ≡ putAll argumentWidth ar 0 (map argumentRecord (formArguments form))
     → p < e
     → e ≤ size
     → ins + outs + p ≤ e
-    → DefParsed least all p i a size read de st ar r de′ st ar′
+    → DefParsed least all p i a size read st ar r st ar′
 unfolding putAll
-bodiless-parsed {all} {i = i} {a = a} {name = name} {first = first} {e = e} {de = de} {st = st} {form = form} is b k ends r-is de-is ar-is low high few =
+bodiless-parsed {all} {i = i} {a = a} {kind = kind} {ins = ins} {outs = outs} {name = name} {first = first} {e = e} {st = st} {form = form} is b k ends r-is ar-is low high few =
+    let unnamed : isNamed kind ≡ false = rw (← k) (named-is form ∙ b .noMacro) in
     rw (is, r-is)
     (record {
-      is = found-same ends (sym (b .none)) (arguments-are form b) refl (sym (b .noMacro));
-      definitionTable = de-is ∙ ap (put 12 de 0) (words-are (record { first = first; end = e; name = name; token = tokenAt all name; form = form }) b k);
-      statementTable = rw (b .statements);
-      argumentTable = ar-is;
-      name = refl;
-      within = (low, high, omega arith, few, tt);
+      is =
+          ap (λ (d : code.Definition). defs.Done d (ins + outs)) (definition-is (record { first = first; end = e; name = name; token = tokenAt all name; form = form }) b k)
+          ∙ ap (defs.Done (codeDefinition i a (record { first = first; end = e; name = name; token = tokenAt all name; form = form }))) (arguments-are form b);
+      statementsHold = rw (b .statements);
+      argumentsHold = ar-is;
+      stands = (refl, ends);
+      within = (low, high, omega arith, few, rw unnamed tt);
     })
 
 -- ---- the head
@@ -143,30 +135,30 @@ module _ (all : List Token) (k first p : ℕ) (rest : ℕ → List Token → Res
         (seq-bad rest (definitionOf first (suc p) (tokenAt all (suc p))) (p + 2) (drop (p + 2) all) y w e)
 
     -- a function, an event or an error: the head, its signature and its record
-    pub signature-parsed : (kind i a : ℕ) {de st ar de′ ar′ : List ℕ} {r : DefRead} (b : Behind)
+    pub signature-parsed : (kind i a : ℕ) {st ar ar′ : List ℕ} {r : DefRead} (b : Behind)
         → SignatureRead kind (p + 2) size (rest (p + 2) (drop (p + 2) all)) ar b ar′
-        → SignaturePut kind first (p + 1) i a b de r de′
-        → DefParsed 7 all p i a size (expect k (plain 1) (λ t. named first rest) p (drop p all)) de st ar r de′ st ar′
+        → r ≡ signatureAnswer kind first (p + 1) i a b
+        → DefParsed 7 all p i a size (expect k (plain 1) (λ t. named first rest) p (drop p all)) st ar r st ar′
     signature-parsed kind i a (behinds.Signed s) g w =
-        bodiless-parsed {n = 2 + g .tokens} (named-got (g .form) (g .tokens) (g .is) ∙ rw (← g .ends)) (g .says) (g .numbered) (omega (arith, g .ends)) (w .is) (w .written) (g .records) (omega (arith, g .further)) (g .inside) (omega (arith, g .few))
+        bodiless-parsed {n = 2 + g .tokens} (named-got (g .form) (g .tokens) (g .is) ∙ rw (← g .ends)) (g .says) (g .numbered) (omega (arith, g .ends)) w (g .records) (omega (arith, g .further)) (g .inside) (omega (arith, g .few))
     signature-parsed kind i a (behinds.Refused c q) g w = refused-parsed (refused-same g named-bad) w
 
 -- ---- lists of arguments
 
 -- the list of m - n arguments from p up to e, whose records were written from number n on
-pub record Listed (n p size : ℕ) (read : Res (List Argument)) (table : List ℕ) (m e : ℕ) (table′ : List ℕ) : Type 0 where
+pub record ListOf (n p size : ℕ) (read : Res (List Argument)) (table : List ℕ) (m e : ℕ) (table′ : List ℕ) : Type 0 where
   pub args : List Argument
   pub tokens : ℕ
   pub is : read ≡ got args tokens
   pub count : m ≡ n + length args
   pub ends : e ≡ p + tokens
-  pub records : table′ ≡ putAll 7 table n (map argumentRecord args)
+  pub records : table′ ≡ putAll argumentWidth table n (map argumentRecord args)
   pub further : p < e
   pub inside : e ≤ size
   pub few : m + p ≤ n + e
 
 pub listed : (n p size : ℕ) (read : Res (List Argument)) {table table′ : List ℕ} {r : ArgList} {m e : ℕ} → ListRead n p size read table r table′ → r ≡ lists.Done m e
-    → Listed n p size read table m e table′
+    → ListOf n p size read table m e table′
 listed n p size (got args k) {m = m} {e = e} l h =
     let w : ListWithin n p size (lists.Done m e) = rw h at (l .within) in
     record {
@@ -203,39 +195,36 @@ record ListSaid (f : Form) (number : ℕ) (args : List Argument) : Type 0 where
   numbered : kindNumber f ≡ number
   same : formArguments f ≡ args
 
-list-said : (sort : Sort) (args : List Argument) → ListSaid (listForm sort args) (listNumber sort) args
+list-said : (listed : Listed) (args : List Argument) → ListSaid (listForm listed args) (listNumber listed) args
 unfolding formArguments
 list-said Event args = record { says = event-says args; numbered = refl; same = append-nil args }
-list-said Call args = record { says = error-says args; numbered = refl; same = append-nil args }
-list-said Builtin args = record { says = error-says args; numbered = refl; same = append-nil args }
-list-said Macro args = record { says = error-says args; numbered = refl; same = append-nil args }
-list-said Typed args = record { says = error-says args; numbered = refl; same = append-nil args }
+list-said Error args = record { says = error-says args; numbered = refl; same = append-nil args }
 
-abbrev listOf : Sort → List Argument → ℕ → List Token → Res Form
-listOf sort args q ts = got (listForm sort args) 0
+abbrev listOf : Listed → List Argument → ℕ → List Token → Res Form
+listOf listed args q ts = got (listForm listed args) 0
 
-module _ (sort : Sort) (all : List Token) (p size : ℕ) where
-  pub list-signed : {table table′ : List ℕ} {m e : ℕ} → Listed 0 p size (parseArgs (one sort) p (drop p all)) table m e table′
-      → Signed (listNumber sort) p size (listRest sort p (drop p all)) table (record { end = e; inputs = m; outputs = 0; ty = 0 }) table′
+module _ (listed : Listed) (all : List Token) (p size : ℕ) where
+  pub list-signed : {table table′ : List ℕ} {m e : ℕ} → ListOf 0 p size (parseArgs (one (listSort listed)) p (drop p all)) table m e table′
+      → Signed (listNumber listed) p size (listRest listed p (drop p all)) table (record { end = e; inputs = m; outputs = 0; ty = 0 }) table′
   list-signed {table} l =
-      let said = list-said sort (l .args) in
+      let said = list-said listed (l .args) in
       record {
-        form = listForm sort (l .args);
+        form = listForm listed (l .args);
         tokens = l .tokens;
         is =
-            seq-got (parseArgs (one sort)) (listOf sort) p (l .tokens) all (l .args) (l .is)
-            ∙ ap (got (listForm sort (l .args))) (add-zero (l .tokens));
+            seq-got (parseArgs (one (listSort listed))) (listOf listed) p (l .tokens) all (l .args) (l .is)
+            ∙ ap (got (listForm listed (l .args))) (add-zero (l .tokens));
         ends = l .ends;
         numbered = said .numbered;
         says = said .says (omega (arith, l .count));
-        records = l .records ∙ ap (λ args. putAll 7 table 0 (map argumentRecord args)) (sym (said .same));
+        records = l .records ∙ ap (λ args. putAll argumentWidth table 0 (map argumentRecord args)) (sym (said .same));
         further = l .further;
         inside = l .inside;
         few = omega (arith, l .few);
       }
 
-  pub list-refused : {c q : ℕ} → RefusedRead (parseArgs (one sort) p (drop p all)) c q → RefusedRead (listRest sort p (drop p all)) c q
-  list-refused h = refused-same h (seq-bad (parseArgs (one sort)) (listOf sort) p (drop p all))
+  pub list-refused : {c q : ℕ} → RefusedRead (parseArgs (one (listSort listed)) p (drop p all)) c q → RefusedRead (listRest listed p (drop p all)) c q
+  list-refused h = refused-same h (seq-bad (parseArgs (one (listSort listed))) (listOf listed) p (drop p all))
 
 -- ---- functions
 
@@ -294,7 +283,7 @@ module _ (all : List Token) (p : ℕ) where
             ∙ ap (λ x. counted 1 (oneMore x))
             (seq-bad (parseArgs (typedArgument false)) (functionOf inputs ty) (p + 2) (drop (p + 2) all) y w e))
 
-        pub outputs-read : {n m e : ℕ} {table table′ : List ℕ} → Listed n (p + 2) size (parseArgs (typedArgument false) (p + 2) (drop (p + 2) all)) table m e table′
+        pub outputs-read : {n m e : ℕ} {table table′ : List ℕ} → ListOf n (p + 2) size (parseArgs (typedArgument false) (p + 2) (drop (p + 2) all)) table m e table′
             → Outputs inputs n p size (outputsRest inputs p (drop p all)) table (record { end = e; inputs = n; outputs = m - n; ty = ty }) table′
         outputs-read l =
             let two : 1 + suc (l .tokens + 0) ≡ 2 + l .tokens = omega arith in
@@ -322,7 +311,7 @@ function-says inputs outputs type m n e f =
 
 module _ (all : List Token) (p size : ℕ) where
   -- the inputs, and behind them the rest
-  pub function-read : {table table₁ : List ℕ} {n e : ℕ} (table₂ : List ℕ) (l : Listed 0 p size (parseArgs (typedArgument false) p (drop p all)) table n e table₁) (b : Behind)
+  pub function-read : {table table₁ : List ℕ} {n e : ℕ} (table₂ : List ℕ) (l : ListOf 0 p size (parseArgs (typedArgument false) p (drop p all)) table n e table₁) (b : Behind)
       → OutputsRead (l .args) n e size (outputsRest (l .args) e (drop e all)) table₁ b table₂
       → SignatureRead 2 p size (functionRest p (drop p all)) table b table₂
   unfolding functionRest formArguments
@@ -338,11 +327,11 @@ module _ (all : List Token) (p size : ℕ) where
         says = function-says (l .args) (o .outputs) (s .ty) (s .inputs) (s .outputs) (sym args ∙ sym (o .before)) (sym (o .count));
         records =
             o .records
-            ∙ ap (λ t. putAll 7 t n (map argumentRecord (o .outputs))) (l .records)
-            ∙ ap (λ k. putAll 7 (putAll 7 table 0 (map argumentRecord (l .args))) k (map argumentRecord (o .outputs))) (l .count ∙ ap (λ k. 0 + k) (sym (length-map (l .args) argumentRecord)))
-            ∙ sym (putAll-append 7 table 0 (map argumentRecord (l .args)) (map argumentRecord (o .outputs)))
-            ∙ ap (putAll 7 table 0) (sym (map-append argumentRecord (l .args) (o .outputs)))
-            ∙ ap (λ os. putAll 7 table 0 (map argumentRecord (l .args ++ os))) (sym (append-nil (o .outputs)));
+            ∙ ap (λ t. putAll argumentWidth t n (map argumentRecord (o .outputs))) (l .records)
+            ∙ ap (λ k. putAll argumentWidth (putAll argumentWidth table 0 (map argumentRecord (l .args))) k (map argumentRecord (o .outputs))) (l .count ∙ ap (λ k. 0 + k) (sym (length-map (l .args) argumentRecord)))
+            ∙ sym (putAll-append argumentWidth table 0 (map argumentRecord (l .args)) (map argumentRecord (o .outputs)))
+            ∙ ap (putAll argumentWidth table 0) (sym (map-append argumentRecord (l .args) (o .outputs)))
+            ∙ ap (λ os. putAll argumentWidth table 0 (map argumentRecord (l .args ++ os))) (sym (append-nil (o .outputs)));
         further = omega (arith, o .further, l .further);
         inside = o .inside;
         few = omega (arith, o .few, l .few, o .before);
@@ -372,19 +361,6 @@ signature-fits kind p size read table table′ (behinds.Signed s) g few n f i a 
     }
 signature-fits kind p size read table table′ (behinds.Refused c q) g few n f i a = tt
 
-pub signature-small : {first name i a : ℕ} {s : Signature} → Fitting first name i a s → Small name first (s .end) a (s .inputs) (s .outputs) i 0
-signature-small g =
-    record {
-      nameFits = omega (arith, g .nameFits);
-      firstFits = omega (arith, g .firstFits);
-      endFits = omega (arith, g .endFits);
-      argumentFits = omega (arith, g .argumentsBefore);
-      argumentsFit = omega (arith, g .inputsFit);
-      outputsFit = omega (arith, g .outputsFit);
-      statementFits = omega (arith, g .statementsBefore);
-      statementsFit = omega arith;
-    }
-
 -- ---- imports
 
 module _ (all : List Token) (p : ℕ) where
@@ -409,19 +385,19 @@ module _ (all : List Token) (p : ℕ) where
       ∙ ap oneMore (expect-yes (suc p) all Str (plain 1) (λ s. definitionOf p (suc p) s anImport) h)
       ∙ rw (add-two, add-one)
 
-  pub import-parsed : {i a size : ℕ} {de st ar de′ : List ℕ} → tokenAt all p .kind ≡ Include → tokenAt all (suc p) .kind ≡ Str → p + 2 ≤ size
-      → de′ ≡ put 12 de 0 (1 ∷ (p + 1) ∷ p ∷ (p + 2) ∷ a ∷ 0 ∷ (a + 0) ∷ 0 ∷ i ∷ 0 ∷ 0 ∷ 0 ∷ [])
-      → DefParsed 8 all p i a size (parseImports p (drop p all)) de st ar (defs.Done (record { at = p + 2; statements = 0; arguments = 0; name = p + 1; named = false })) de′ st ar
+  pub import-parsed : {i a size : ℕ} {st ar : List ℕ} {r : DefRead} → tokenAt all p .kind ≡ Include → tokenAt all (suc p) .kind ≡ Str → p + 2 ≤ size
+      → r ≡ defs.Done (signatureOf importNumber p (p + 1) i a (record { end = p + 2; inputs = 0; outputs = 0; ty = 0 })) 0
+      → DefParsed 8 all p i a size (parseImports p (drop p all)) st ar r st ar
   unfolding formCount formStatements formArguments putAll
   import-parsed e h inside written =
       bodiless-parsed (imported e h)
       (record { none = refl; statements = λ i m. refl; noMacro = refl; inputs = refl; outputs = refl; inner = refl; last = refl })
-      refl refl refl written refl (omega arith) inside (omega arith)
+      refl refl written refl (omega arith) inside (omega arith)
 
 -- ---- constants
 
-abbrev pub constantOf : Value → ℕ → List Token → Res Form
-constantOf v q ts = got (aDefinedConstant v) 0
+abbrev pub constantForm : Value → ℕ → List Token → Res Form
+constantForm v q ts = got (aDefinedConstant v) 0
 
 -- what may stand at q as a constant's value
 abbrev pub valueTable : ℕ → List (ℕ × Step Value)
@@ -429,7 +405,7 @@ valueTable q = (FreeStoragePointer, taken (pointerAt q)) ∷ (Literal, taken (li
 
 module _ (all : List Token) (p : ℕ) where
   abbrev valued : ℕ → List Token → Res Form
-  valued = seq constantValue constantOf
+  valued = seq constantValue constantForm
 
   pub no-assign : (tokenAt all p .kind ≡ Assign → ⊥) → constantRest p (drop p all) ≡ bad (plain 1) p
   unfolding constantRest
@@ -438,18 +414,18 @@ module _ (all : List Token) (p : ℕ) where
   -- behind its `=`, the value by its kind
   pub assigned : (k : ℕ) → tokenAt all p .kind ≡ Assign → tokenAt all (p + 1) .kind ≡ k
       → constantRest p (drop p all)
-      ≡ oneMore (joined (stepped (choose (valueTable (p + 1)) (refuse (plain 3)) k) (p + 1) (drop (suc (p + 1)) all)) constantOf (p + 1) (drop (p + 1) all))
+      ≡ oneMore (joined (stepped (choose (valueTable (p + 1)) (refuse (plain 3)) k) (p + 1) (drop (suc (p + 1)) all)) constantForm (p + 1) (drop (p + 1) all))
   unfolding constantRest constantValue seq
   assigned k e h =
       expect-yes p all Assign (plain 1) (λ a. valued) e
       ∙ ap (λ q. oneMore (valued q (drop q all))) (sym (add-one p))
-      ∙ ap (λ r. oneMore (joined r constantOf (p + 1) (drop (p + 1) all)))
+      ∙ ap (λ r. oneMore (joined r constantForm (p + 1) (drop (p + 1) all)))
       (look-table (p + 1) all (λ t. valueTable (p + 1)) (λ t. refuse (plain 3)) k h)
 
   pub no-value : (k : ℕ) → tokenAt all p .kind ≡ Assign → tokenAt all (p + 1) .kind ≡ k → NoneOf (valueTable (p + 1)) k → constantRest p (drop p all) ≡ bad (plain 3) (p + 1)
   no-value k e h none =
       assigned k e h
-      ∙ ap (λ s. oneMore (joined (stepped s (p + 1) (drop (suc (p + 1)) all)) constantOf (p + 1) (drop (p + 1) all)))
+      ∙ ap (λ s. oneMore (joined (stepped s (p + 1) (drop (suc (p + 1)) all)) constantForm (p + 1) (drop (p + 1) all)))
       (choose-none (valueTable (p + 1)) (refuse (plain 3)) k none)
 
 module _ (all : List Token) (first p size : ℕ) (h : Headed all Constant p size heads.Named) where
@@ -489,23 +465,16 @@ constant-says : (v : ConstVal) {x y : ℕ} → valueWords (valueOf v) ≡ x ∷ 
 unfolding formCount formStatements
 constant-says v e = record { none = refl; statements = λ i m. refl; noMacro = refl; inputs = refl; outputs = refl; inner = refl; last = e }
 
-module _ {all : List Token} {first p i a size : ℕ} {read : Res Definition} {de st ar de′ : List ℕ} (d : ConstantDefinition) where
-  constant-from : (x y : ℕ) → valueWords (valueOf (d .value)) ≡ x ∷ y ∷ [] → ConstantGot all first p size read d → de′ ≡ put 12 de 0 (constantWords i a d)
-      → DefParsed 7 all p i a size read de st ar (defs.Done (record { at = d .end; statements = 0; arguments = 0; name = d .name; named = false })) de′ st ar
-  unfolding formArguments putAll
-  constant-from x y e c written =
-      bodiless-parsed (c .is) (constant-says (d .value) e) refl (c .ends) refl
-      (written ∙ ap (λ l. put 12 de 0 (4 ∷ d .name ∷ d .first ∷ d .end ∷ a ∷ 0 ∷ (a + 0) ∷ 0 ∷ i ∷ 0 ∷ l)) e)
-      refl (omega (arith, c .ends)) (c .inside) (omega (arith, c .ends))
-
-  pub constant-parsed : ConstantGot all first p size read d → de′ ≡ put 12 de 0 (constantWords i a d)
-      → DefParsed 7 all p i a size read de st ar (defs.Done (record { at = d .end; statements = 0; arguments = 0; name = d .name; named = false })) de′ st ar
-  constant-parsed = go (d .value) refl
-    where
-      go : (v : ConstVal) → d .value ≡ v → ConstantGot all first p size read d → de′ ≡ put 12 de 0 (constantWords i a d)
-          → DefParsed 7 all p i a size read de st ar (defs.Done (record { at = d .end; statements = 0; arguments = 0; name = d .name; named = false })) de′ st ar
-      go (constvals.Literal q) e = constant-from 1 q (ap (λ v. valueWords (valueOf v)) e)
-      go (constvals.FreeStoragePointer q) e = constant-from 2 q (ap (λ v. valueWords (valueOf v)) e)
+pub constant-parsed : {all : List Token} {first p i a size : ℕ} {read : Res Definition} {st ar : List ℕ} {r : DefRead} (d : ConstantDefinition)
+    → ConstantGot all first p size read d → r ≡ defs.Done (constantOf i a d) 0
+    → DefParsed 7 all p i a size read st ar r st ar
+unfolding formArguments putAll
+constant-parsed {a = a} d c is =
+    bodiless-parsed (c .is) (constant-says (d .value) (value-words (d .value))) refl (c .ends) (is ∙ rw (add-zero a)) refl (omega (arith, c .ends)) (c .inside) (omega (arith, c .ends))
+  where
+    value-words : (v : ConstVal) → valueWords (valueOf v) ≡ valueType v ∷ placeOf v ∷ []
+    value-words (constvals.Literal q) = refl
+    value-words (constvals.FreeStoragePointer q) = refl
 
 -- ---- the choice by kind
 
@@ -534,3 +503,51 @@ module _ (all : List Token) (p : ℕ) where
       top-at Define e
       ∙ expect-yes p all Define (plain 1) (λ d. byKind (kindTable base p) (plain 2)) e
       ∙ ap (λ q. oneMore (byKind (kindTable base p) (plain 2) q (drop q all))) (sym (add-one p))
+
+-- ---- its record
+
+-- the words of its record are those that the grammar says
+record-is : (i a : ℕ) (d : Definition) → definitionWords (codeDefinition i a d) ≡ definitionRecord i a d
+unfolding definitionRecord
+record-is i a d = go (d .form) refl
+  where
+    go : (f : Form) → d .form ≡ f → definitionWords (codeDefinition i a d) ≡ definitionRecord i a d
+    go anImport e = rw e
+    go (aFunction inputs type outputs) e = rw e
+    go (anEvent args) e = rw e
+    go (aDefinedConstant (literalAt q)) e = rw e
+    go (aDefinedConstant (pointerAt q)) e = rw e
+    go (anError args) e = rw e
+    go (aMacro sort args takes returns r) e = rw e
+    go (aTable sort es) e = rw e
+
+module _ {all : List Token} {p i a size : ℕ} {read : Res Definition} {de st ar de′ st′ ar′ : List ℕ} where
+  -- it was read, and its record is the first of the lent rest
+  pub added : (d : code.Definition) {n : ℕ} → DefParsed 8 all p i a size read st ar (defs.Done d n) st′ ar′ → de′ ≡ put definitionWidth de 0 (definitionWords d)
+      → DefAdded all p i a size read 0 0 0 de st ar (defs.Done d n) de′ st′ ar′
+  unfolding putAll
+  added d {n} h written = go read refl
+    where
+      go : (x : Res Definition) → read ≡ x → DefAdded all p i a size read 0 0 0 de st ar (defs.Done d n) de′ st′ ar′
+      go (got x k) e =
+          let h′ = rw e at h in
+          let same : d ≡ codeDefinition i a x = cc (h′ .is) in
+          rw e
+          (record {
+            is = h′ .is;
+            definitionsHold = written ∙ ap (λ (y : code.Definition). put definitionWidth de 0 (definitionWords y)) same ∙ ap (put definitionWidth de 0) (record-is i a x);
+            statementsHold = h′ .statementsHold;
+            argumentsHold = h′ .argumentsHold;
+            stands = h′ .stands;
+            within = h′ .within;
+          })
+      go (bad y w) e = absurd (let h′ = rw e at h in let z : _≡_ {A = ℕ} 0 1 = cc (h′ .is) in omega arith)
+
+  pub added-refused : {c q : ℕ} → DefParsed 8 all p i a size read st ar (defs.Refused c q) st′ ar′ → DefAdded all p i a size read 0 0 0 de st ar (defs.Refused c q) de′ st′ ar′
+  added-refused {c} {q} h = go read refl
+    where
+      go : (x : Res Definition) → read ≡ x → DefAdded all p i a size read 0 0 0 de st ar (defs.Refused c q) de′ st′ ar′
+      go (got x k) e = absurd (let h′ = rw e at h in let z : _≡_ {A = ℕ} 0 1 = cc (h′ .is) in omega arith)
+      go (bad y w) e =
+          let h′ = rw e at h in
+          rw e (record { is = h′ .is; definitionsHold = tt; statementsHold = tt; argumentsHold = tt; stands = tt; within = tt })

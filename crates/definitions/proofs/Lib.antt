@@ -1,13 +1,7 @@
 -- Laws that the proofs of this layer cite, and what is proved of its entry; each function's proof has a folder of its own.
 pub mod DefinitionLaws
-pub mod EntryLaws
-pub mod FileDemand
-pub mod FileLaws
 pub mod Fixed
-pub mod Lined
 pub mod MacroLaws
-pub mod Named
-pub mod NoteLaws
+pub mod HeadLaws
 pub mod Readers
-pub mod RecordLaws
-pub mod TableReading
+pub mod TableLaws

@@ -10,10 +10,11 @@ use borrow.Author.Tests.{eq-eqb, ne-eqb}
 use lib.Dec.{eqb}
 use lib.ListN.{length, drop, length-append, length-map}
 use Rattle.tokens.specs.Token.{Token, tokenAt, view, KindAt}
-use Rattle.tokens.specs.Table.{putAll}
+use Rattle.tokens.specs.Number.{statementWidth, argumentWidth}
+use Rattle.tokens.specs.Lent.{putAll}
 use Rattle.tokens.specs.Kind.{Macro, Fn, Test, Takes, Returns, Assign, OpenParen, CloseParen, OpenBrace, CloseBrace}
 use Rattle.tokens.proofs.Laws.{lt-or-le}
-use Rattle.tokens.proofs.TableLaws.{putAll-append}
+use Rattle.tokens.proofs.LentLaws.{putAll-append}
 use Rattle.grammar.specs.Reading.{Argument, Reading}
 use Rattle.grammar.specs.Rules.{base}
 use Rattle.grammar.specs.Result.{plain, number, Res, got, bad, on, refuse, leave, stepped, oneMore, Step, choose, expect, counted, seq}
@@ -22,26 +23,29 @@ use Rattle.grammar.specs.Typed.{singleNumber}
 use Rattle.grammar.specs.Records.{argumentRecord, allArguments, statementRecords, argumentRecords, statementCount, argumentCount}
 use Rattle.grammar.specs.FileReading.{MacroSort, theMacro, theFn, theTest, Form, aMacro, Definition}
 use Rattle.grammar.specs.FileReader.{optional, parseArgs, named, macroRest, parseMacro, byKind, kindTable}
-use Rattle.grammar.specs.FileRecords.{macroNumber, formArguments, formCount, formStatements, definitionRecord}
+use Rattle.grammar.specs.FileRecords.{macroNumber, formArguments, formCount, formStatements}
+use Rattle.grammar.specs.Written.{RefusedRead}
 use Rattle.grammar.proofs.AtPlace.{look-at}
-use Rattle.statements.specs.Answers.{SingleRead, ListRead, BodyParsed}
-use Rattle.statements.specs.declared.single.Single.{Single}
-use Rattle.statements.specs.declared.single.Single.the-variants as singles
-use Rattle.statements.specs.declared.argument.Sort.the-variants as sorts
-use Rattle.statements.specs.declared.list.ArgList.the-variants as lists
-use Rattle.statements.specs.declared.item.Tally.{Tally}
+use Rattle.lists.specs.Answers.{SingleRead, ListRead}
+use Rattle.statements.specs.Answers.{BodyParsed}
+use Rattle.lists.specs.declared.single.Single.{Single}
+use Rattle.lists.specs.declared.single.Single.the-variants as singles
+use Rattle.lists.specs.declared.argument.Sort.the-variants as sorts
+use Rattle.lists.specs.declared.list.ArgList.the-variants as lists
+use Rattle.statements.specs.declared.item.Progress.{Progress}
 use Rattle.statements.specs.declared.item.Items.the-variants as items
 use Rattle.definitions.specs.declared.record.DefRead.{DefRead}
 use Rattle.definitions.specs.declared.record.DefRead.the-variants as defs
 use Rattle.definitions.specs.declared.macros.Numbers.the-variants as numbers
-use Rattle.definitions.specs.Answers.{DefParsed}
+use Rattle.definitions.specs.declared.macros.Tail.the-variants as tails
+use Rattle.definitions.specs.Answers.{isNamed, DefParsed}
 use Rattle.definitions.specs.Behind.{formed, behindName}
-use Rattle.definitions.specs.Macros.{MacroKind, macroSort, NumberRead, numbersFrom, NumbersRead, headFrom, tailFrom, MacroPut, TailParsed}
-use Rattle.statements.proofs.At.{look-table, look-else, expect-yes, expect-no}
-use Rattle.statements.proofs.ListLaws.{Listing, listing-closed, behind}
+use Rattle.definitions.specs.Macros.{MacroKind, macroSort, NumberRead, numbersFrom, NumbersRead, headFrom, tailFrom, macroOf, TailParsed}
+use Rattle.lists.proofs.At.{look-table, look-else, expect-yes, expect-no}
+use Rattle.lists.proofs.ListLaws.{Listing, listing-closed, behind}
 use Rattle.definitions.proofs.DefinitionLaws.{by-kind}
-use Rattle.definitions.proofs.Named.{refused}
-use Rattle.definitions.proofs.Readers.{Stops, stops-here, as-stops, seq-stops, seq-at, seq-then-stops, seq-nothing, seq-same, seq-group, expect-group, AtLeast, any-least, expect-least, seq-least}
+use Rattle.definitions.proofs.HeadLaws.{refused-parsed}
+use Rattle.definitions.proofs.Readers.{stops-here, as-stops, seq-stops, seq-at, seq-then-stops, seq-nothing, seq-same, seq-group, expect-group, AtLeast, any-least, expect-least, seq-least}
 
 -- ---- a number that may be missing
 
@@ -83,14 +87,14 @@ number-got : {p size n e : ℕ} (x : Res ℕ) → NumberRead p size x (singles.N
 number-got (got m k) h = record { size = k; is = (cc (h .is)); ends = (cc (h .is)) }
 number-got (bad y w) h = absurd (let z : _≡_ {A = ℕ} 0 1 = cc (h .is) in omega arith)
 
-number-stops : {p size c q : ℕ} (x : Res ℕ) → NumberRead p size x (singles.Refused c q) → Stops x c q
+number-stops : {p size c q : ℕ} (x : Res ℕ) → NumberRead p size x (singles.Refused c q) → RefusedRead x c q
 number-stops (got m k) h = absurd (let z : _≡_ {A = ℕ} 0 1 = cc (h .is) in omega arith)
-number-stops (bad y w) h = record { why = y; place = w; is = refl; says = (cc (h .is)); at = (cc (h .is)) }
+number-stops (bad y w) h = record { why = y; place = w; is = refl; numbered = (cc (h .is)); cursor = (cc (h .is)) }
 
 -- ---- both numbers
 
-numbers-refused : {p size c q : ℕ} {x : Res (ℕ × ℕ)} → Stops x c q → NumbersRead p size x (numbers.Refused c q)
-numbers-refused {q = q} s = rw (s .is) (record { is = ap (λ n. numbers.Refused n q) (s .says) ∙ ap (numbers.Refused (number (s .why))) (s .at); within = tt })
+numbers-refused : {p size c q : ℕ} {x : Res (ℕ × ℕ)} → RefusedRead x c q → NumbersRead p size x (numbers.Refused c q)
+numbers-refused {q = q} s = rw (s .is) (record { is = ap (λ n. numbers.Refused n q) (s .numbered) ∙ ap (numbers.Refused (number (s .why))) (s .cursor); within = tt })
 
 -- Returns behind a number
 abbrev second : ℕ → ℕ → List Token → Res (ℕ × ℕ)
@@ -132,20 +136,20 @@ record ListGot (p : ℕ) (x : Res (List Argument)) (table : List ℕ) (n e : ℕ
   is : x ≡ got args size
   count : n ≡ length args
   ends : p + size ≡ e
-  written : table′ ≡ putAll 7 table 0 (map argumentRecord args)
+  written : table′ ≡ putAll argumentWidth table 0 (map argumentRecord args)
 
 list-got : {p size n e : ℕ} {table table′ : List ℕ} (x : Res (List Argument)) → ListRead 0 p size x table (lists.Done n e) table′ → ListGot p x table n e table′
 list-got (got args k) h =
     record { args = args; size = k; is = refl; count = (cc (h .is, zero-add (length args))); ends = (cc (h .is)); written = h .records }
 list-got (bad y w) h = absurd (let z : _≡_ {A = ℕ} 0 1 = cc (h .is) in omega arith)
 
-list-stops : {p size c q : ℕ} {table table′ : List ℕ} (x : Res (List Argument)) → ListRead 0 p size x table (lists.Refused c q) table′ → Stops x c q
+list-stops : {p size c q : ℕ} {table table′ : List ℕ} (x : Res (List Argument)) → ListRead 0 p size x table (lists.Refused c q) table′ → RefusedRead x c q
 list-stops (got args k) h = absurd (let z : _≡_ {A = ℕ} 0 1 = cc (h .is) in omega arith)
-list-stops (bad y w) h = record { why = y; place = w; is = refl; says = (cc (h .is)); at = (cc (h .is)) }
+list-stops (bad y w) h = record { why = y; place = w; is = refl; numbered = (cc (h .is)); cursor = (cc (h .is)) }
 
-list-refused : {p size c q : ℕ} {table table′ : List ℕ} {x : Res (List Argument)} → Stops x c q → ListRead 0 p size x table (lists.Refused c q) table′
+list-refused : {p size c q : ℕ} {table table′ : List ℕ} {x : Res (List Argument)} → RefusedRead x c q → ListRead 0 p size x table (lists.Refused c q) table′
 list-refused {q = q} s =
-    rw (s .is) (record { is = ap (λ n. lists.Refused n q) (s .says) ∙ ap (lists.Refused (number (s .why))) (s .at); records = tt; within = tt })
+    rw (s .is) (record { is = ap (λ n. lists.Refused n q) (s .numbered) ∙ ap (lists.Refused (number (s .why))) (s .cursor); records = tt; within = tt })
 
 -- `( )`: no argument is declared, and nothing is written
 pub none-declared : (text : List ℕ) {tokens kept table : List ℕ} {p k : ℕ} → tokenAt (view text tokens kept) p .kind ≡ OpenParen → KindAt tokens kept (p + 1) k → k ≡ CloseParen
@@ -196,17 +200,17 @@ module _ {p size : ℕ} {table table′ : List ℕ} (all : List Token) where
 -- ---- the body and the record
 
 -- what the body's answer tells: the reading, and the records behind those before it
-record BodyGot (s : Tally) (i a : ℕ) (x : Res Reading) (st ar : List ℕ) (t : Tally) (st′ ar′ : List ℕ) : Type 0 where
+record BodyGot (s : Progress) (i a : ℕ) (x : Res Reading) (st ar : List ℕ) (t : Progress) (st′ ar′ : List ℕ) : Type 0 where
   value : Reading
   size : ℕ
   is : x ≡ got value size
   ends : s .at + size ≡ t .at
   statements : t .statements ≡ s .statements + statementCount value
   arguments : t .arguments ≡ s .arguments + argumentCount value
-  statementTable : st′ ≡ putAll 8 st (s .statements) (statementRecords (i + s .statements) (a + s .arguments) value)
-  argumentTable : ar′ ≡ putAll 7 ar (s .arguments) (argumentRecords value)
+  statementsHold : st′ ≡ putAll statementWidth st (s .statements) (statementRecords (i + s .statements) (a + s .arguments) value)
+  argumentsHold : ar′ ≡ putAll argumentWidth ar (s .arguments) (argumentRecords value)
 
-body-got : {s : Tally} {i a size : ℕ} {st ar st′ ar′ : List ℕ} {t : Tally} (x : Res Reading) → BodyParsed s i a size x st ar (items.Done t) st′ ar′ → BodyGot s i a x st ar t st′ ar′
+body-got : {s : Progress} {i a size : ℕ} {st ar st′ ar′ : List ℕ} {t : Progress} (x : Res Reading) → BodyParsed s i a size x st ar (items.Done t) st′ ar′ → BodyGot s i a x st ar t st′ ar′
 body-got {t = t} (got r k) h =
     record {
       value = r;
@@ -215,14 +219,14 @@ body-got {t = t} (got r k) h =
       ends = (cc (h .is));
       statements = (cc (h .is));
       arguments = (cc (h .is));
-      statementTable = h .statementTable;
-      argumentTable = h .argumentTable;
+      statementsHold = h .statementsHold;
+      argumentsHold = h .argumentsHold;
     }
 body-got (bad y w) h = absurd (let z : _≡_ {A = ℕ} 0 1 = cc (h .is) in omega arith)
 
-body-stops : {s : Tally} {i a size c q : ℕ} {st ar st′ ar′ : List ℕ} (x : Res Reading) → BodyParsed s i a size x st ar (items.Refused c q) st′ ar′ → Stops x c q
+body-stops : {s : Progress} {i a size c q : ℕ} {st ar st′ ar′ : List ℕ} (x : Res Reading) → BodyParsed s i a size x st ar (items.Refused c q) st′ ar′ → RefusedRead x c q
 body-stops (got r k) h = absurd (let z : _≡_ {A = ℕ} 0 1 = cc (h .is) in omega arith)
-body-stops (bad y w) h = record { why = y; place = w; is = refl; says = (cc (h .is)); at = (cc (h .is)) }
+body-stops (bad y w) h = record { why = y; place = w; is = refl; numbered = (cc (h .is)); cursor = (cc (h .is)) }
 
 record NumbersGot (p : ℕ) (x : Res (ℕ × ℕ)) (t r e : ℕ) : Type 0 where
   size : ℕ
@@ -236,38 +240,33 @@ numbers-got {t = t} {r} (got n k) h =
     record { size = k; is = ap (λ x. got (x, n .1) k) takes ∙ ap (λ x. got (t, x) k) returns; ends = (cc (h .is)) }
 numbers-got (bad y w) h = absurd (let z : _≡_ {A = ℕ} 0 1 = cc (h .is) in omega arith)
 
-numbers-stops : {p size c q : ℕ} (x : Res (ℕ × ℕ)) → NumbersRead p size x (numbers.Refused c q) → Stops x c q
+numbers-stops : {p size c q : ℕ} (x : Res (ℕ × ℕ)) → NumbersRead p size x (numbers.Refused c q) → RefusedRead x c q
 numbers-stops (got n k) h = absurd (let z : _≡_ {A = ℕ} 0 1 = cc (h .is) in omega arith)
-numbers-stops (bad y w) h = record { why = y; place = w; is = refl; says = (cc (h .is)); at = (cc (h .is)) }
+numbers-stops (bad y w) h = record { why = y; place = w; is = refl; numbered = (cc (h .is)); cursor = (cc (h .is)) }
 
 -- the body behind both numbers
 abbrev bodyBehind : ℕ × ℕ → ℕ → List Token → Res ((ℕ × ℕ) × Reading)
 bodyBehind n = seq (bodyFrom base) (λ r q ts. got (n, r) 0)
 
--- the tally that a body starts with, behind n declared arguments
-abbrev pub start : ℕ → ℕ → Tally
+progress-is : (y : Progress) {p m n : ℕ} → y .at ≡ p → y .statements ≡ m → y .arguments ≡ n → y ≡ record { at = p; statements = m; arguments = n }
+progress-is y e f g = rw (← e, ← f, ← g)
+
+-- the progress that a body starts with, behind n declared arguments
+abbrev pub start : ℕ → ℕ → Progress
 start e n = record { at = e; statements = 0; arguments = n }
 
-module _ {kind first name n q i a size : ℕ} {de st ar de′ st′ ar′ : List ℕ} (all : List Token) where
-  tail-refused : {c w : ℕ} {x : Res ((ℕ × ℕ) × Reading)} → Stops x c w → TailParsed kind first name n q i a size x de st ar (defs.Refused c w) de′ st′ ar′
-  tail-refused {w = w} s =
-      rw (s .is)
-      (record {
-        is = ap (λ x. defs.Refused x w) (s .says) ∙ ap (λ x. defs.Refused (number (s .why)) x) (s .at);
-        definitionTable = tt;
-        statementTable = tt;
-        argumentTable = tt;
-        within = tt;
-      })
+module _ {n q i a size : ℕ} {st ar st′ ar′ : List ℕ} (all : List Token) where
+  tail-refused : {c w : ℕ} {x : Res ((ℕ × ℕ) × Reading)} → RefusedRead x c w → TailParsed n q i a size x st ar (tails.Refused c w) st′ ar′
+  tail-refused s = rw (s .is, s .numbered, s .cursor) (record { is = refl; statementsHold = tt; argumentsHold = tt; within = tt })
 
   pub numbers-are-refused : {c w : ℕ} → NumbersRead q size (numbersFrom q (drop q all)) (numbers.Refused c w)
-      → TailParsed kind first name n q i a size (tailFrom q (drop q all)) de st ar (defs.Refused c w) de′ st′ ar′
+      → TailParsed n q i a size (tailFrom q (drop q all)) st ar (tails.Refused c w) st′ ar′
   unfolding tailFrom
   numbers-are-refused h = tail-refused (seq-stops numbersFrom bodyBehind q (drop q all) (numbers-stops _ h))
 
   module _ {t r e : ℕ} (h : NumbersRead q size (numbersFrom q (drop q all)) (numbers.Done t r e)) where
-    pub body-is-refused : {s : Tally} {c w : ℕ} → BodyParsed s i a size (bodyFrom base e (drop e all)) st ar (items.Refused c w) st′ ar′
-        → TailParsed kind first name n q i a size (tailFrom q (drop q all)) de st ar (defs.Refused c w) de′ st′ ar′
+    pub body-is-refused : {s : Progress} {c w : ℕ} → BodyParsed s i a size (bodyFrom base e (drop e all)) st ar (items.Refused c w) st′ ar′
+        → TailParsed n q i a size (tailFrom q (drop q all)) st ar (tails.Refused c w) st′ ar′
     unfolding tailFrom
     body-is-refused k =
         let g = numbers-got _ h in
@@ -275,14 +274,13 @@ module _ {kind first name n q i a size : ℕ} {de st ar de′ st′ ar′ : List
         (seq-then-stops numbersFrom bodyBehind q all (g .is) (g .ends)
         (seq-stops (bodyFrom base) (λ b x ts. got ((t, r), b) 0) e (drop e all) (body-stops _ k)))
 
-    pub tail-read : {y : Tally} {o : DefRead} → BodyParsed (start e n) i a size (bodyFrom base e (drop e all)) st ar (items.Done y) st′ ar′
-        → MacroPut kind first name n t r y i a de o de′
-        → TailParsed kind first name n q i a size (tailFrom q (drop q all)) de st ar o de′ st′ ar′
+    pub tail-read : {y : Progress} → BodyParsed (start e n) i a size (bodyFrom base e (drop e all)) st ar (items.Done y) st′ ar′
+        → TailParsed n q i a size (tailFrom q (drop q all)) st ar (tails.Done t r y) st′ ar′
     unfolding tailFrom
-    tail-read {y} {o} k m = go (numbers-got _ h) (body-got _ k)
+    tail-read {y} k = go (numbers-got _ h) (body-got _ k)
       where
         go : NumbersGot q (numbersFrom q (drop q all)) t r e → BodyGot (start e n) i a (bodyFrom base e (drop e all)) st ar y st′ ar′
-            → TailParsed kind first name n q i a size (tailFrom q (drop q all)) de st ar o de′ st′ ar′
+            → TailParsed n q i a size (tailFrom q (drop q all)) st ar (tails.Done t r y) st′ ar′
         go g b =
             let w = k .within in
             let place : y .at ≡ q + (g .size + (b .size + 0)) = omega (arith, g .ends, b .ends) in
@@ -291,11 +289,10 @@ module _ {kind first name n q i a size : ℕ} {de st ar de′ st′ ar′ : List
             (seq-at numbersFrom bodyBehind q all (g .is) (g .ends)
             ∙ ap (counted (g .size)) (seq-at (bodyFrom base) (λ b x ts. got ((t, r), b) 0) e all (b .is) (b .ends)))
             (record {
-              is = m .is ∙ rw (place, count, b .arguments) refl;
-              definitionTable = m .table ∙ rw (place, count) refl;
-              statementTable = b .statementTable ∙ rw (add-zero i) refl;
-              argumentTable = b .argumentTable;
-              within = rw (m .is) (omega arith, omega arith, omega arith, omega arith);
+              is = ap (tails.Done t r) (progress-is y place count (b .arguments));
+              statementsHold = b .statementsHold ∙ rw (add-zero i) refl;
+              argumentsHold = b .argumentsHold;
+              within = (omega arith, omega arith, omega arith, omega arith);
             })
 
 -- ---- the whole
@@ -359,12 +356,48 @@ macro-least sort =
     seq-least 0 2 (optional Takes singleNumber 0) _ (any-least (optional Takes singleNumber 0)) (λ takes.
     seq-least 0 2 (optional Returns singleNumber 0) _ (any-least (optional Returns singleNumber 0)) (λ returns. seq-least 2 0 (bodyFrom base) _ body-least (λ r p ts. zero-le)))))
 
+-- what the tail's answer tells
+record TailGot (n q i a : ℕ) (x : Res ((ℕ × ℕ) × Reading)) (st ar : List ℕ) (takes returns : ℕ) (t : Progress) (st′ ar′ : List ℕ) : Type 0 where
+  value : Reading
+  size : ℕ
+  is : x ≡ got ((takes, returns), value) size
+  ends : q + size ≡ t .at
+  statements : t .statements ≡ statementCount value
+  arguments : t .arguments ≡ n + argumentCount value
+  statementsHold : st′ ≡ putAll statementWidth st 0 (statementRecords i (a + n) value)
+  argumentsHold : ar′ ≡ putAll argumentWidth ar n (argumentRecords value)
+
+tail-got : {n q i a size takes returns : ℕ} {t : Progress} {st ar st′ ar′ : List ℕ} (x : Res ((ℕ × ℕ) × Reading)) → TailParsed n q i a size x st ar (tails.Done takes returns t) st′ ar′
+    → TailGot n q i a x st ar takes returns t st′ ar′
+tail-got {takes = takes} {returns} (got x k) h =
+    let first : x .0 .0 ≡ takes = cc (h .is) in
+    let second : x .0 .1 ≡ returns = cc (h .is) in
+    record {
+      value = x .1;
+      size = k;
+      is = ap (λ z. got ((z, x .0 .1), x .1) k) first ∙ ap (λ z. got ((takes, z), x .1) k) second;
+      ends = (cc (h .is));
+      statements = (cc (h .is));
+      arguments = (cc (h .is));
+      statementsHold = h .statementsHold;
+      argumentsHold = h .argumentsHold;
+    }
+tail-got (bad y w) h = absurd (let z : _≡_ {A = ℕ} 0 1 = cc (h .is) in omega arith)
+
+tail-stops : {n q i a size c w : ℕ} {st ar st′ ar′ : List ℕ} (x : Res ((ℕ × ℕ) × Reading)) → TailParsed n q i a size x st ar (tails.Refused c w) st′ ar′ → RefusedRead x c w
+tail-stops (got x k) h = absurd (let z : _≡_ {A = ℕ} 0 1 = cc (h .is) in omega arith)
+tail-stops (bad y w) h = record { why = y; place = w; is = refl; numbered = (cc (h .is)); cursor = (cc (h .is)) }
+
 which : (k : ℕ) → MacroKind k → (k ≡ 6) ⊎ ((k ≡ 7) ⊎ (k ≡ 8))
 which k h = ⊎-elim (λ (l : k < 7). inl (omega arith)) (λ (l : 7 ≤ k). inr (⊎-elim (λ (g : k < 8). inl (omega arith)) (λ (g : 8 ≤ k). inr (omega arith)) (lt-or-le k 8))) (lt-or-le k 7)
 
 -- the sort's number is the kind of its token
 sort-number : (k : ℕ) → MacroKind k → macroNumber (macroSort k) ≡ k
 sort-number k h = ⊎-elim (λ (e : k ≡ 6). rw e) (⊎-elim (λ (e : k ≡ 7). rw e) (λ (e : k ≡ 8). rw e)) (which k h)
+
+macro-named : (k : ℕ) → MacroKind k → isNamed k ≡ true
+unfolding isNamed
+macro-named k h = ⊎-elim (λ (e : k ≡ 6). rw e) (⊎-elim (λ (e : k ≡ 7). rw e) (λ (e : k ≡ 8). rw e)) (which k h)
 
 module _ (kind first name p : ℕ) (all : List Token) where
   -- a macro by the two parts of its reading
@@ -376,58 +409,66 @@ module _ (kind first name p : ℕ) (all : List Token) where
       ∙ seq-at headFrom (behindEquals sort) p all h ends
       ∙ ap (counted m) (sym (tail-group sort args q (drop q all)) ∙ seq-at tailFrom (composed sort args) q all t refl)
 
-  module _ {i a size : ℕ} {de st ar ar₁ de′ st′ ar′ : List ℕ} where
+  module _ {i a size : ℕ} {st ar ar₁ st′ ar′ : List ℕ} where
     pub head-is-refused : (sort : MacroSort) {c q : ℕ} → ListRead 0 p size (headFrom p (drop p all)) ar (lists.Refused c q) ar₁
-        → DefParsed 5 all p i a size (behindName first name all (macroRest base sort) p) de st ar (defs.Refused c q) de′ st′ ar′
+        → DefParsed 5 all p i a size (behindName first name all (macroRest base sort) p) st ar (defs.Refused c q) st′ ar′
     unfolding behindName
     head-is-refused sort h =
-        refused
+        refused-parsed
         (seq-stops (macroRest base sort) (formed first name all) p (drop p all)
         (as-stops (sym (head-group sort p (drop p all))) (seq-stops headFrom (behindEquals sort) p (drop p all) (list-stops _ h))))
+        refl
 
-    -- the declared arguments come first, and the body's behind them
-    pub macro-read : {n q : ℕ} {r : DefRead} → name ≤ p → MacroKind kind → ListRead 0 p size (headFrom p (drop p all)) ar (lists.Done n q) ar₁
-        → TailParsed kind first name n q i a size (tailFrom q (drop q all)) de st ar₁ r de′ st′ ar′
-        → DefParsed 5 all p i a size (behindName first name all (macroRest base (macroSort kind)) p) de st ar r de′ st′ ar′
-    unfolding behindName definitionRecord formCount formArguments formStatements argumentCount argumentRecords
-    macro-read {n} {q} {r} before k h t = go (list-got _ h) (tailFrom q (drop q all)) refl t
-      where
-        go : ListGot p (headFrom p (drop p all)) ar n q ar₁ → (x : Res ((ℕ × ℕ) × Reading)) → tailFrom q (drop q all) ≡ x
-            → TailParsed kind first name n q i a size x de st ar₁ r de′ st′ ar′
-            → DefParsed 5 all p i a size (behindName first name all (macroRest base (macroSort kind)) p) de st ar r de′ st′ ar′
-        go g (got x j) e t =
-            let w = h .within in
-            let v = rw (t .is) at (t .within) in
-            let m = g .size in
-            let args = g .args in
-            let place : q + j ≡ p + (m + (j + 0) + 0) = omega (arith, g .ends) in
-            let end : q + j ≡ p + (m + (j + 0)) = omega (arith, g .ends) in
-            let count : n + length (allArguments (x .1)) ≡ length (args ++ allArguments (x .1)) = rw (g .count) (sym (length-append args (allArguments (x .1)))) in
-            let declared : n ≡ 0 + length (map argumentRecord args) = rw (zero-add, length-map) (g .count) in
-            let parts = parts-read (macroSort kind) args m q j x (g .is) (g .ends) e in
-            let long : 5 ≤ m + (j + 0) = rw parts at (macro-least (macroSort kind) p (drop p all)) in
-            rw (seq-at (macroRest base (macroSort kind)) (formed first name all) p all parts refl)
-            (record {
-              is = t .is ∙ rw (place, count) refl;
-              definitionTable = t .definitionTable ∙ rw (end, g .count, sort-number kind k) refl;
-              statementTable = t .statementTable ∙ rw (g .count, add-zero (a + length args)) refl;
-              argumentTable =
-                  t .argumentTable
-                  ∙ ap (λ l. putAll 7 l n (map argumentRecord (allArguments (x .1)))) (g .written)
-                  ∙ ap (λ o. putAll 7 (putAll 7 ar 0 (map argumentRecord args)) o (map argumentRecord (allArguments (x .1)))) declared
-                  ∙ sym (putAll-append 7 ar 0 (map argumentRecord args) (map argumentRecord (allArguments (x .1))))
-                  ∙ ap (putAll 7 ar 0) (sym (map-append argumentRecord args (allArguments (x .1))));
-              name = refl;
-              within = rw (t .is) (omega arith, omega arith, omega arith, omega arith, (omega (arith, g .ends), omega (arith, g .ends)));
-            })
-        go g (bad y w) e t =
-            rw (t .is)
-            (refused
-            (seq-stops (macroRest base (macroSort kind)) (formed first name all) p (drop p all)
-            (as-stops (sym (head-group (macroSort kind) p (drop p all)))
-            (seq-then-stops headFrom (behindEquals (macroSort kind)) p all (g .is) (g .ends)
-            (as-stops (sym (tail-group (macroSort kind) (g .args) q (drop q all)))
-            (seq-stops tailFrom (composed (macroSort kind) (g .args)) q (drop q all) (record { why = y; place = w; is = e; says = refl; at = refl })))))))
+    module _ {n q : ℕ} (h : ListRead 0 p size (headFrom p (drop p all)) ar (lists.Done n q) ar₁) where
+      pub tail-is-refused : (sort : MacroSort) {c w : ℕ} → TailParsed n q i a size (tailFrom q (drop q all)) st ar₁ (tails.Refused c w) st′ ar′
+          → DefParsed 5 all p i a size (behindName first name all (macroRest base sort) p) st ar (defs.Refused c w) st′ ar′
+      unfolding behindName
+      tail-is-refused sort t =
+          let g = list-got _ h in
+          refused-parsed
+          (seq-stops (macroRest base sort) (formed first name all) p (drop p all)
+          (as-stops (sym (head-group sort p (drop p all)))
+          (seq-then-stops headFrom (behindEquals sort) p all (g .is) (g .ends)
+          (as-stops (sym (tail-group sort (g .args) q (drop q all)))
+          (seq-stops tailFrom (composed sort (g .args)) q (drop q all) (tail-stops _ t))))))
+          refl
+
+      -- the declared arguments come first, and the body's behind them
+      pub macro-read : {takes returns : ℕ} {t : Progress} {r : DefRead} → name ≤ p → MacroKind kind
+          → TailParsed n q i a size (tailFrom q (drop q all)) st ar₁ (tails.Done takes returns t) st′ ar′
+          → r ≡ defs.Done (macroOf kind first name n takes returns (t .at) (t .statements) i a) (t .arguments)
+          → DefParsed 5 all p i a size (behindName first name all (macroRest base (macroSort kind)) p) st ar r st′ ar′
+      unfolding behindName formCount formArguments formStatements argumentCount argumentRecords
+      macro-read {takes} {returns} {t} {r} before k v is = go (list-got _ h) (tail-got _ v)
+        where
+          go : ListGot p (headFrom p (drop p all)) ar n q ar₁ → TailGot n q i a (tailFrom q (drop q all)) st ar₁ takes returns t st′ ar′
+              → DefParsed 5 all p i a size (behindName first name all (macroRest base (macroSort kind)) p) st ar r st′ ar′
+          go g b =
+              let w = h .within in
+              let u = v .within in
+              let m = g .size in
+              let args = g .args in
+              let x = b .value in
+              let place : t .at ≡ p + (m + (b .size + 0)) = omega (arith, g .ends, b .ends) in
+              let place′ : p + (m + (b .size + 0)) ≡ p + (m + (b .size + 0) + 0) = omega arith in
+              let count : t .arguments ≡ length (args ++ allArguments x) = b .arguments ∙ rw (g .count) (sym (length-append args (allArguments x))) in
+              let declared : n ≡ 0 + length (map argumentRecord args) = rw (zero-add, length-map) (g .count) in
+              let parts = parts-read (macroSort kind) args m q (b .size) ((takes, returns), x) (g .is) (g .ends) (b .is) in
+              let long : 5 ≤ m + (b .size + 0) = rw parts at (macro-least (macroSort kind) p (drop p all)) in
+              let macro : isNamed kind ≡ true = macro-named kind k in
+              rw (seq-at (macroRest base (macroSort kind)) (formed first name all) p all parts refl)
+              (record {
+                is = is ∙ rw (place, b .statements, count, g .count, sort-number kind k) refl;
+                statementsHold = b .statementsHold ∙ rw (g .count, add-zero (a + length args)) refl;
+                argumentsHold =
+                    b .argumentsHold
+                    ∙ ap (λ l. putAll argumentWidth l n (map argumentRecord (allArguments x))) (g .written)
+                    ∙ ap (λ o. putAll argumentWidth (putAll argumentWidth ar 0 (map argumentRecord args)) o (map argumentRecord (allArguments x))) declared
+                    ∙ sym (putAll-append argumentWidth ar 0 (map argumentRecord args) (map argumentRecord (allArguments x)))
+                    ∙ ap (putAll argumentWidth ar 0) (sym (map-append argumentRecord args (allArguments x)));
+                stands = (refl, place′);
+                within = rw (is, macro) (omega arith, omega arith, omega arith, omega arith, (omega (arith, g .ends), omega (arith, g .ends)));
+              })
 
 -- ---- the first token
 

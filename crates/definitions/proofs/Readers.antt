@@ -10,35 +10,28 @@ use lib.Seq.{drop-drop}
 use lib.Dec.{eqb}
 use Rattle.tokens.specs.Token.{Token, tokenAt}
 use Rattle.grammar.specs.Result.{Why, plain, number, beyond, Res, got, bad, refuse, on, stepped, oneMore, look, expect, counted, joined, seq}
+use Rattle.grammar.specs.Written.{RefusedRead}
 use Rattle.grammar.proofs.AtPlace.{seq-got, seq-bad}
 
 -- ---- a refusal
 
--- the reader refuses, with this number and cursor
-pub record Stops {A : Type 0} (x : Res A) (c q : ℕ) : Type 0 where
-  pub why : Why
-  pub place : ℕ
-  pub is : x ≡ bad why place
-  pub says : c ≡ number why
-  pub at : q ≡ place + beyond why
+pub stops-here : {A : Type 0} {x : Res A} {c q w : ℕ} → x ≡ bad (plain c) w → q ≡ w → RefusedRead x c q
+stops-here {c = c} {w = w} e h = record { why = plain c; place = w; is = e; numbered = refl; cursor = h ∙ sym (add-zero w) }
 
-pub stops-here : {A : Type 0} {x : Res A} {c q w : ℕ} → x ≡ bad (plain c) w → q ≡ w → Stops x c q
-stops-here {c = c} {w = w} e h = record { why = plain c; place = w; is = e; says = refl; at = h ∙ sym (add-zero w) }
+pub as-stops : {A : Type 0} {x y : Res A} {c q : ℕ} → x ≡ y → RefusedRead y c q → RefusedRead x c q
+as-stops e s = record { why = s .why; place = s .place; is = e ∙ s .is; numbered = s .numbered; cursor = s .cursor }
 
-pub as-stops : {A : Type 0} {x y : Res A} {c q : ℕ} → x ≡ y → Stops y c q → Stops x c q
-as-stops e s = record { why = s .why; place = s .place; is = e ∙ s .is; says = s .says; at = s .at }
+pub more-stops : {A : Type 0} {x : Res A} {c q : ℕ} → RefusedRead x c q → RefusedRead (oneMore x) c q
+more-stops s = record { why = s .why; place = s .place; is = ap oneMore (s .is); numbered = s .numbered; cursor = s .cursor }
 
-pub more-stops : {A : Type 0} {x : Res A} {c q : ℕ} → Stops x c q → Stops (oneMore x) c q
-more-stops s = record { why = s .why; place = s .place; is = ap oneMore (s .is); says = s .says; at = s .at }
-
-pub counted-stops : {A : Type 0} {x : Res A} {c q : ℕ} (n : ℕ) → Stops x c q → Stops (counted n x) c q
-counted-stops n s = record { why = s .why; place = s .place; is = ap (counted n) (s .is); says = s .says; at = s .at }
+pub counted-stops : {A : Type 0} {x : Res A} {c q : ℕ} (n : ℕ) → RefusedRead x c q → RefusedRead (counted n x) c q
+counted-stops n s = record { why = s .why; place = s .place; is = ap (counted n) (s .is); numbered = s .numbered; cursor = s .cursor }
 
 module _ {A B : Type 0} (u : ℕ → List Token → Res A) (f : A → ℕ → List Token → Res B) where
   -- the first of two refuses
-  pub seq-stops : (p : ℕ) (ts : List Token) {c q : ℕ} → Stops (u p ts) c q → Stops (seq u f p ts) c q
+  pub seq-stops : (p : ℕ) (ts : List Token) {c q : ℕ} → RefusedRead (u p ts) c q → RefusedRead (seq u f p ts) c q
   seq-stops p ts s =
-      record { why = s .why; place = s .place; is = seq-bad u f p ts (s .why) (s .place) (s .is); says = s .says; at = s .at }
+      record { why = s .why; place = s .place; is = seq-bad u f p ts (s .why) (s .place) (s .is); numbered = s .numbered; cursor = s .cursor }
 
   module _ (p : ℕ) (all : List Token) {n e : ℕ} {a : A} (is : u p (drop p all) ≡ got a n) (ends : p + n ≡ e) where
     -- the first reads up to e, and the second from there on
@@ -46,7 +39,7 @@ module _ {A B : Type 0} (u : ℕ → List Token → Res A) (f : A → ℕ → Li
     seq-at = seq-got u f p n all a is ∙ ap (λ k. counted n (f a k (drop k all))) ends
 
     -- and the second refuses
-    pub seq-then-stops : {c q : ℕ} → Stops (f a e (drop e all)) c q → Stops (seq u f p (drop p all)) c q
+    pub seq-then-stops : {c q : ℕ} → RefusedRead (f a e (drop e all)) c q → RefusedRead (seq u f p (drop p all)) c q
     seq-then-stops s = as-stops seq-at (counted-stops n s)
 
 -- ---- grouping

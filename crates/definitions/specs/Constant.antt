@@ -1,11 +1,14 @@
 -- What the parts of a constant's reader promise.
 use Prim.Native.Nat.{ℕ, _+_, _≤_}
 use mathlib.Core.Path.{_≡_}
-use mathlib.Core.List.{List, _∷_}
+use mathlib.Core.List.{List}
+use lib.ListN.{getD}
+use Rattle.tokens.specs.Number.{mostTokens}
 use Rattle.tokens.specs.Token.{Token, tokenAt}
 use Rattle.grammar.specs.Result.{plain, Res, got, bad}
 use Rattle.grammar.specs.FileReading.{Value, literalAt, pointerAt, Form, aDefinedConstant, Definition}
-use Rattle.grammar.specs.FileRecords.{valueWords}
+use Rattle.grammar.specs.FileRecords.{constantNumber, valueWords}
+use Rattle.definitions.specs.declared.record.Definition as code
 use Rattle.definitions.specs.declared.constant.ConstVal.{ConstVal}
 use Rattle.definitions.specs.declared.constant.ConstVal.the-variants.{Literal, FreeStoragePointer}
 use Rattle.definitions.specs.declared.constant.ConstantDefinition.{ConstantDefinition}
@@ -48,13 +51,31 @@ ConstantRead all first p size read (constants.Refused c q) = read ≡ bad (plain
 
 -- numbers that its record's words can hold
 pub record ConstantFits (d : ConstantDefinition) (i a : ℕ) : Type 0 where
-  pub first : d .first ≤ 65536
-  pub end : d .end ≤ 65536
-  pub name : d .name ≤ 65536
-  pub place : placeOf (d .value) ≤ 65536
-  pub statements : i ≤ 65536
-  pub arguments : a ≤ 65536
+  pub first : d .first ≤ mostTokens
+  pub end : d .end ≤ mostTokens
+  pub name : d .name ≤ mostTokens
+  pub place : placeOf (d .value) ≤ mostTokens
+  pub statements : i ≤ mostTokens
+  pub arguments : a ≤ mostTokens
 
--- its record: no arguments, no outputs, no statements
-abbrev pub constantWords : ℕ → ℕ → ConstantDefinition → List ℕ
-constantWords i a d = 4 ∷ d .name ∷ d .first ∷ d .end ∷ a ∷ 0 ∷ (a + 0) ∷ 0 ∷ i ∷ 0 ∷ valueWords (valueOf (d .value))
+-- A and B: 1 and a literal's place, or 2 and the pointer's
+abbrev pub valueType : ConstVal → ℕ
+valueType v = getD (valueWords (valueOf v)) 0 0
+
+-- its definition: no arguments, no outputs, no statements
+abbrev pub constantOf : ℕ → ℕ → ConstantDefinition → code.Definition
+constantOf i a d =
+    record {
+      kind = constantNumber;
+      name = d .name;
+      first = d .first;
+      end = d .end;
+      argument = a;
+      arguments = 0;
+      output = a;
+      outputs = 0;
+      statement = i;
+      statements = 0;
+      a = valueType (d .value);
+      b = placeOf (d .value);
+    }

@@ -1,11 +1,11 @@
 -- How the parts of a macro, fn or test are read, and what the code's answers for them say.
 use Prim.Native.Nat.{ℕ, _+_, _≤_}
 use mathlib.Core.Path.{_≡_}
-use mathlib.Core.Bool.{true, cond}
-use mathlib.Core.List.{List, [], _∷_}
+use mathlib.Core.Bool.{cond}
+use mathlib.Core.List.{List}
 use lib.Dec.{leb}
+use Rattle.tokens.specs.Number.{UnexpectedType, statementWidth, argumentWidth, mostTokens}
 use Rattle.tokens.specs.Token.{Token}
-use Rattle.tokens.specs.Table.{put}
 use Rattle.tokens.specs.Kind.{Macro, Fn, Test, Takes, Returns, Assign}
 use Rattle.grammar.specs.Reading.{Argument, Reading}
 use Rattle.grammar.specs.Rules.{base}
@@ -15,12 +15,14 @@ use Rattle.grammar.specs.Typed.{singleNumber}
 use Rattle.grammar.specs.Records.{statementRecords, argumentRecords, statementCount, argumentCount}
 use Rattle.grammar.specs.FileReading.{MacroSort, theMacro, theFn, theTest}
 use Rattle.grammar.specs.FileReader.{optional, parseArgs}
-use Rattle.statements.specs.Answers.{singleAnswer, Written}
-use Rattle.statements.specs.declared.single.Single.{Single}
-use Rattle.statements.specs.declared.single.Single.the-variants as singles
-use Rattle.statements.specs.declared.item.Tally.{Tally}
-use Rattle.definitions.specs.declared.record.DefRead.{DefRead}
-use Rattle.definitions.specs.declared.record.DefRead.the-variants as defs
+use Rattle.grammar.specs.Written.{Written}
+use Rattle.lists.specs.Answers.{singleAnswer}
+use Rattle.lists.specs.declared.single.Single.{Single}
+use Rattle.lists.specs.declared.single.Single.the-variants as singles
+use Rattle.statements.specs.declared.item.Progress.{Progress}
+use Rattle.definitions.specs.declared.record.Definition as code
+use Rattle.definitions.specs.declared.macros.Tail.{Tail}
+use Rattle.definitions.specs.declared.macros.Tail.the-variants as tails
 use Rattle.definitions.specs.declared.macros.Numbers.{Numbers}
 use Rattle.definitions.specs.declared.macros.Numbers.the-variants as numbers
 
@@ -61,7 +63,7 @@ pub record NumbersRead (p size : ℕ) (read : Res (ℕ × ℕ)) (r : Numbers) : 
 -- ---- the list and `=`
 
 unfoldable pub headFrom : ℕ → List Token → Res (List Argument)
-headFrom = seq (parseArgs nameArgument) (λ args. expect Assign (plain 1) (λ a q ts. got args 0))
+headFrom = seq (parseArgs nameArgument) (λ args. expect Assign (plain UnexpectedType) (λ a q ts. got args 0))
 
 -- ---- what stands behind `=`
 
@@ -69,47 +71,46 @@ headFrom = seq (parseArgs nameArgument) (λ args. expect Assign (plain 1) (λ a 
 unfoldable pub tailFrom : ℕ → List Token → Res ((ℕ × ℕ) × Reading)
 tailFrom = seq numbersFrom (λ n. seq (bodyFrom base) (λ r q ts. got (n, r) 0))
 
--- the words fit: n declared arguments, and a body that ends with the tally t
-pub record Declared (first name n : ℕ) (t : Tally) (i a : ℕ) : Type 0 where
-  pub begun : first ≤ 65536
-  pub placed : name ≤ 65536
-  pub arguments : n ≤ 65536
-  pub at : t .at ≤ 65536
-  pub statements : t .statements ≤ 65536
-  pub statementsBefore : i ≤ 65536
-  pub argumentsBefore : a ≤ 65536
+-- the words fit: n declared arguments, and a body that ends with the progress t
+pub record Declared (first name n : ℕ) (t : Progress) (i a : ℕ) : Type 0 where
+  pub begun : first ≤ mostTokens
+  pub placed : name ≤ mostTokens
+  pub arguments : n ≤ mostTokens
+  pub at : t .at ≤ mostTokens
+  pub statements : t .statements ≤ mostTokens
+  pub statementsBefore : i ≤ mostTokens
+  pub argumentsBefore : a ≤ mostTokens
 
--- the words of the record: the first output stands behind the declared arguments, and there is none
-abbrev pub macroWords : ℕ → ℕ → ℕ → ℕ → ℕ → ℕ → ℕ → ℕ → ℕ → ℕ → List ℕ
-macroWords kind first name n takes returns end statements i a =
-    kind ∷ name ∷ first ∷ end ∷ a ∷ n ∷ (a + n) ∷ 0 ∷ i ∷ statements ∷ takes ∷ returns ∷ []
+-- its definition: the first output stands behind the declared arguments, and there is none
+abbrev pub macroOf : ℕ → ℕ → ℕ → ℕ → ℕ → ℕ → ℕ → ℕ → ℕ → ℕ → code.Definition
+macroOf kind first name n takes returns end statements i a =
+    record {
+      kind = kind;
+      name = name;
+      first = first;
+      end = end;
+      argument = a;
+      arguments = n;
+      output = a + n;
+      outputs = 0;
+      statement = i;
+      statements = statements;
+      a = takes;
+      b = returns;
+    }
 
-abbrev pub macroFound : ℕ → ℕ → ℕ → ℕ → DefRead
-macroFound name end statements arguments =
-    defs.Done (record { at = end; statements = statements; arguments = arguments; name = name; named = true })
+-- the answer from place q on, where n arguments are declared: both numbers, and the progress behind the body
+abbrev pub tailAnswer : ℕ → ℕ → Res ((ℕ × ℕ) × Reading) → Tail
+tailAnswer n q (got x k) = tails.Done (x .0 .0) (x .0 .1) (record { at = q + k; statements = statementCount (x .1); arguments = n + argumentCount (x .1) })
+tailAnswer n q (bad y w) = tails.Refused (number y) (w + beyond y)
 
-pub record MacroPut (kind first name n takes returns : ℕ) (t : Tally) (i a : ℕ) (de : List ℕ) (r : DefRead) (de′ : List ℕ) : Type 0 where
-  pub is : r ≡ macroFound name (t .at) (t .statements) (t .arguments)
-  pub table : de′ ≡ put 12 de 0 (macroWords kind first name n takes returns (t .at) (t .statements) i a)
-
--- the answer from place q on, where n arguments are declared
-abbrev pub tailAnswer : ℕ → ℕ → ℕ → Res ((ℕ × ℕ) × Reading) → DefRead
-tailAnswer name n q (got x k) = macroFound name (q + k) (statementCount (x .1)) (n + argumentCount (x .1))
-tailAnswer name n q (bad y w) = defs.Refused (number y) (w + beyond y)
-
-abbrev pub TailTable : ℕ → ℕ → ℕ → ℕ → ℕ → ℕ → ℕ → Res ((ℕ × ℕ) × Reading) → List ℕ → List ℕ → Type 0
-TailTable kind first name n q i a (got x k) table table′ =
-    table′ ≡ put 12 table 0 (macroWords kind first name n (x .0 .0) (x .0 .1) (q + k) (statementCount (x .1)) i a)
-TailTable kind first name n q i a (bad y w) table table′ = Unit {0}
-
-abbrev pub TailWithin : ℕ → ℕ → ℕ → DefRead → Type 0
-TailWithin n q size (defs.Done f) = (q ≤ f .at) × (f .at ≤ size) × (f .statements + q ≤ f .at) × (f .arguments + q ≤ n + f .at)
-TailWithin n q size (defs.Refused c w) = Unit {0}
+abbrev pub TailWithin : ℕ → ℕ → ℕ → Tail → Type 0
+TailWithin n q size (tails.Done takes returns t) = (q ≤ t .at) × (t .at ≤ size) × (t .statements + q ≤ t .at) × (t .arguments + q ≤ n + t .at)
+TailWithin n q size (tails.Refused c w) = Unit {0}
 
 -- what the reader behind `=` promises; the body's arguments are numbered and written behind the declared ones
-pub record TailParsed (kind first name n q i a size : ℕ) (read : Res ((ℕ × ℕ) × Reading)) (de st ar : List ℕ) (r : DefRead) (de′ st′ ar′ : List ℕ) : Type 0 where
-  pub is : r ≡ tailAnswer name n q read
-  pub definitionTable : TailTable kind first name n q i a read de de′
-  pub statementTable : Written 8 (λ x. statementRecords i (a + n) (x .1)) read 0 st st′
-  pub argumentTable : Written 7 (λ x. argumentRecords (x .1)) read n ar ar′
+pub record TailParsed (n q i a size : ℕ) (read : Res ((ℕ × ℕ) × Reading)) (st ar : List ℕ) (r : Tail) (st′ ar′ : List ℕ) : Type 0 where
+  pub is : r ≡ tailAnswer n q read
+  pub statementsHold : Written statementWidth (λ x. statementRecords i (a + n) (x .1)) read 0 st st′
+  pub argumentsHold : Written argumentWidth (λ x. argumentRecords (x .1)) read n ar ar′
   pub within : TailWithin n q size r

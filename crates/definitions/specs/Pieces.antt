@@ -5,45 +5,32 @@ use mathlib.Core.Bool.{false, cond}
 use mathlib.Core.List.{List, [], _∷_, map}
 use lib.ListN.{length, drop}
 use lib.Dec.{eqb}
+use Rattle.tokens.specs.Number.{UnexpectedType, argumentWidth, mostTokens}
 use Rattle.tokens.specs.Token.{Token, tokenAt}
-use Rattle.tokens.specs.Table.{put, putAll}
+use Rattle.tokens.specs.Lent.{putAll}
+use Rattle.tokens.specs.Kind as kinds
 use Rattle.tokens.specs.Kind.{Ident, Returns}
 use Rattle.grammar.specs.Reading.{Argument}
-use Rattle.grammar.specs.Result.{Why, plain, number, beyond, Res, got, bad, expect, seq}
+use Rattle.grammar.specs.Result.{plain, Res, got, bad, expect, seq}
+use Rattle.grammar.specs.Written.{RefusedRead}
 use Rattle.grammar.specs.Typed.{typedArgument}
 use Rattle.grammar.specs.Records.{argumentRecord}
 use Rattle.grammar.specs.FileReading.{Form, aFunction, anEvent, anError, isMacro}
 use Rattle.grammar.specs.FileReader.{parseArgs, named, functionType}
-use Rattle.grammar.specs.FileRecords.{kindNumber, inputsOf, outputsOf, innerArguments, formArguments, formCount, formStatements, lastWords}
-use Rattle.statements.specs.Answers.{one}
-use Rattle.statements.specs.declared.argument.Sort.{Sort}
-use Rattle.statements.specs.declared.argument.Sort.the-variants.{Call, Builtin, Macro, Typed, Event}
+use Rattle.grammar.specs.FileRecords.{eventNumber, errorNumber, kindNumber, inputsOf, outputsOf, innerArguments, formArguments, formCount, formStatements, lastWords}
+use Rattle.lists.specs.Answers.{one}
+use Rattle.lists.specs.declared.argument.Sort.{Sort}
+use Rattle.lists.specs.declared.argument.Sort.the-variants as sorts
+use Rattle.definitions.specs.declared.record.Definition as code
 use Rattle.definitions.specs.declared.record.DefRead.{DefRead}
 use Rattle.definitions.specs.declared.record.DefRead.the-variants as defs
 use Rattle.definitions.specs.declared.head.Head.{Head}
 use Rattle.definitions.specs.declared.head.Head.the-variants as heads
+use Rattle.definitions.specs.declared.signature.Listed.{Listed}
+use Rattle.definitions.specs.declared.signature.Listed.the-variants.{Event, Error}
 use Rattle.definitions.specs.declared.signature.Signature.{Signature}
 use Rattle.definitions.specs.declared.signature.Behind.{Behind}
 use Rattle.definitions.specs.declared.signature.Behind.the-variants as behinds
-
--- numbers that a record's words can hold
-pub record Small (name first end argument arguments outputs statement statements : ℕ) : Type 0 where
-  pub nameFits : name ≤ 1048576
-  pub firstFits : first ≤ 1048576
-  pub endFits : end ≤ 1048576
-  pub argumentFits : argument ≤ 1048576
-  pub argumentsFit : arguments ≤ 1048576
-  pub outputsFit : outputs ≤ 1048576
-  pub statementFits : statement ≤ 1048576
-  pub statementsFit : statements ≤ 1048576
-
--- the reading is refused with number c and cursor q
-pub record RefusedRead {A : Type 0} (read : Res A) (c q : ℕ) : Type 0 where
-  pub why : Why
-  pub place : ℕ
-  pub is : read ≡ bad why place
-  pub numbered : c ≡ number why
-  pub cursor : q ≡ place + beyond why
 
 -- ---- the head
 
@@ -51,7 +38,7 @@ pub record RefusedRead {A : Type 0} (read : Res A) (c q : ℕ) : Type 0 where
 abbrev pub Headed : List Token → ℕ → ℕ → ℕ → Head → Type 0
 Headed all k p size heads.Named = (tokenAt all p .kind ≡ k) × (tokenAt all (suc p) .kind ≡ Ident) × (p + 2 ≤ size)
 Headed all k p size (heads.Wrong q) =
-    (first : ℕ) (rest : ℕ → List Token → Res Form) → expect k (plain 1) (λ t. named first rest) p (drop p all) ≡ bad (plain 1) q
+    (first : ℕ) (rest : ℕ → List Token → Res Form) → expect k (plain UnexpectedType) (λ t. named first rest) p (drop p all) ≡ bad (plain UnexpectedType) q
 
 -- ---- the signature
 
@@ -73,7 +60,7 @@ pub record Signed (kind p size : ℕ) (read : Res Form) (table : List ℕ) (s : 
   pub ends : s .end ≡ p + tokens
   pub numbered : kindNumber form ≡ kind
   pub says : Bodiless form (s .inputs) (s .outputs) (s .ty) 0
-  pub records : table′ ≡ putAll 7 table 0 (map argumentRecord (formArguments form))
+  pub records : table′ ≡ putAll argumentWidth table 0 (map argumentRecord (formArguments form))
   pub further : p < s .end
   pub inside : s .end ≤ size
   pub few : s .inputs + s .outputs + p ≤ s .end
@@ -82,27 +69,29 @@ abbrev pub SignatureRead : ℕ → ℕ → ℕ → Res Form → List ℕ → Beh
 SignatureRead kind p size read table (behinds.Signed s) table′ = Signed kind p size read table s table′
 SignatureRead kind p size read table (behinds.Refused c q) table′ = RefusedRead read c q
 
--- an event's list, or an error's: its kind's number, its form, its reader
-abbrev pub listNumber : Sort → ℕ
-listNumber Event = 3
-listNumber Call = 5
-listNumber Builtin = 5
-listNumber Macro = 5
-listNumber Typed = 5
+-- an event's list, or an error's: the sort of its list, the kind of its token and of its definition, its form, its reader
+abbrev pub listSort : Listed → Sort
+listSort Event = sorts.Event
+listSort Error = sorts.Typed
 
-abbrev pub listForm : Sort → List Argument → Form
+abbrev pub listKind : Listed → ℕ
+listKind Event = kinds.Event
+listKind Error = kinds.Error
+
+abbrev pub listNumber : Listed → ℕ
+listNumber Event = eventNumber
+listNumber Error = errorNumber
+
+abbrev pub listForm : Listed → List Argument → Form
 listForm Event = anEvent
-listForm Call = anError
-listForm Builtin = anError
-listForm Macro = anError
-listForm Typed = anError
+listForm Error = anError
 
-abbrev pub listRest : Sort → ℕ → List Token → Res Form
-listRest sort = seq (parseArgs (one sort)) (λ args q ts. got (listForm sort args) 0)
+abbrev pub listRest : Listed → ℕ → List Token → Res Form
+listRest listed = seq (parseArgs (one (listSort listed))) (λ args q ts. got (listForm listed args) 0)
 
 -- a function's type r, or 0 where none stands at p
 abbrev pub typeAnswer : ℕ → ℕ → Res ℕ
-typeAnswer p r = cond (eqb r 0) (bad (plain 1) p) (got r 1)
+typeAnswer p r = cond (eqb r 0) (bad (plain UnexpectedType) p) (got r 1)
 
 pub record TypeRead (p size : ℕ) (read : Res ℕ) (r : ℕ) : Type 0 where
   pub is : read ≡ typeAnswer p r
@@ -112,7 +101,7 @@ pub record TypeRead (p size : ℕ) (read : Res ℕ) (r : ℕ) : Type 0 where
 abbrev pub outputsRest : List Argument → ℕ → List Token → Res Form
 outputsRest inputs =
     seq functionType (λ type.
-    expect Returns (plain 1) (λ r.
+    expect Returns (plain UnexpectedType) (λ r.
     seq (parseArgs (typedArgument false)) (λ outputs q ts. got (aFunction inputs type outputs) 0)))
 
 -- the outputs of s were read from p on, and their records were written from number n on
@@ -123,7 +112,7 @@ pub record Outputs (inputs : List Argument) (n p size : ℕ) (read : Res Form) (
   pub ends : s .end ≡ p + tokens
   pub before : s .inputs ≡ n
   pub count : s .outputs ≡ length outputs
-  pub records : table′ ≡ putAll 7 table n (map argumentRecord outputs)
+  pub records : table′ ≡ putAll argumentWidth table n (map argumentRecord outputs)
   pub further : p < s .end
   pub inside : s .end ≤ size
   pub few : s .outputs + p ≤ s .end
@@ -132,25 +121,40 @@ abbrev pub OutputsRead : List Argument → ℕ → ℕ → ℕ → Res Form → 
 OutputsRead inputs n p size read table (behinds.Signed s) table′ = Outputs inputs n p size read table s table′
 OutputsRead inputs n p size read table (behinds.Refused c q) table′ = RefusedRead read c q
 
--- ---- the record of a signature
+-- ---- the definition that a signature says
 
 pub record Fitting (first name i a : ℕ) (s : Signature) : Type 0 where
-  pub firstFits : first ≤ 65536
-  pub nameFits : name ≤ 65536
-  pub endFits : s .end ≤ 65536
-  pub inputsFit : s .inputs ≤ 65536
-  pub outputsFit : s .outputs ≤ 65536
-  pub statementsBefore : i ≤ 65536
-  pub argumentsBefore : a ≤ 65536
+  pub firstFits : first ≤ mostTokens
+  pub nameFits : name ≤ mostTokens
+  pub endFits : s .end ≤ mostTokens
+  pub inputsFit : s .inputs ≤ mostTokens
+  pub outputsFit : s .outputs ≤ mostTokens
+  pub statementsBefore : i ≤ mostTokens
+  pub argumentsBefore : a ≤ mostTokens
 
 abbrev pub SignatureFits : ℕ → ℕ → ℕ → ℕ → Behind → Type 0
 SignatureFits first name i a (behinds.Signed s) = Fitting first name i a s
 SignatureFits first name i a (behinds.Refused c q) = Unit {0}
 
-pub record SignedPut (kind first name i a : ℕ) (s : Signature) (table : List ℕ) (r : DefRead) (table′ : List ℕ) : Type 0 where
-  pub is : r ≡ defs.Done (record { at = s .end; statements = 0; arguments = s .inputs + s .outputs; name = name; named = false })
-  pub written : table′ ≡ put 12 table 0 (kind ∷ name ∷ first ∷ s .end ∷ a ∷ s .inputs ∷ (a + s .inputs) ∷ s .outputs ∷ i ∷ 0 ∷ s .ty ∷ 0 ∷ [])
+-- the definition that it says, behind i statement and a argument records
+abbrev pub signatureOf : ℕ → ℕ → ℕ → ℕ → ℕ → Signature → code.Definition
+signatureOf number first name i a s =
+    record {
+      kind = number;
+      name = name;
+      first = first;
+      end = s .end;
+      argument = a;
+      arguments = s .inputs;
+      output = a + s .inputs;
+      outputs = s .outputs;
+      statement = i;
+      statements = 0;
+      a = s .ty;
+      b = 0;
+    }
 
-abbrev pub SignaturePut : ℕ → ℕ → ℕ → ℕ → ℕ → Behind → List ℕ → DefRead → List ℕ → Type 0
-SignaturePut kind first name i a (behinds.Signed s) table r table′ = SignedPut kind first name i a s table r table′
-SignaturePut kind first name i a (behinds.Refused c q) table r table′ = r ≡ defs.Refused c q
+-- the same with its argument records; a refusal is handed on
+abbrev pub signatureAnswer : ℕ → ℕ → ℕ → ℕ → ℕ → Behind → DefRead
+signatureAnswer number first name i a (behinds.Signed s) = defs.Done (signatureOf number first name i a s) (s .inputs + s .outputs)
+signatureAnswer number first name i a (behinds.Refused c q) = defs.Refused c q

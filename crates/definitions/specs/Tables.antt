@@ -1,20 +1,19 @@
 -- How the parts of a table are read, and what the code's answers for them say.
 use Prim.Native.Nat.{ℕ, suc, _+_, _*_, _/_, _≤_, _<_}
 use mathlib.Core.Path.{_≡_}
-use mathlib.Core.Bool.{false, cond}
-use mathlib.Core.List.{List, [], _∷_}
+use mathlib.Core.Bool.{cond}
+use mathlib.Core.List.{List}
 use lib.Dec.{leb, eqb}
 use lib.ListN.{length}
+use Rattle.tokens.specs.Number.{InvalidTableBodyToken, statementWidth, mostBytes, mostTokens}
 use Rattle.tokens.specs.Token.{Token, kindAt}
-use Rattle.tokens.specs.Table.{put}
 use Rattle.tokens.specs.Kind.{JumpTable, JumpTablePacked, OpenParen, CloseParen, CloseBrace, Assign}
 use Rattle.grammar.specs.Result.{plain, number, beyond, Res, got, bad, expect, seq}
 use Rattle.grammar.specs.FileReading.{TableSort, jumpTable, packedTable, codeTable, TableEntry, digitTotal}
 use Rattle.grammar.specs.FileReader.{tableEntries}
 use Rattle.grammar.specs.FileRecords.{tableNumber, entryRecords}
-use Rattle.statements.specs.Answers.{Written}
-use Rattle.definitions.specs.declared.record.DefRead.{DefRead}
-use Rattle.definitions.specs.declared.record.DefRead.the-variants as defs
+use Rattle.grammar.specs.Written.{Written}
+use Rattle.definitions.specs.declared.record.Definition as code
 use Rattle.definitions.specs.declared.table.TableKind.{TableKind}
 use Rattle.definitions.specs.declared.table.TableKind.the-variants.{Jump, Packed, Code}
 use Rattle.definitions.specs.declared.table.Entries.{Entries}
@@ -56,7 +55,7 @@ pub record Past (p size place r : ℕ) : Type 0 where
 
 -- the entries and the brace
 unfoldable pub entriesFrom : TableSort → ℕ → List Token → Res (List TableEntry)
-entriesFrom sort = seq (tableEntries sort) (λ es. expect CloseBrace (plain 11) (λ c q ts. got es 0))
+entriesFrom sort = seq (tableEntries sort) (λ es. expect CloseBrace (plain InvalidTableBodyToken) (λ c q ts. got es 0))
 
 abbrev pub entriesAnswer : ℕ → Res (List TableEntry) → Entries
 entriesAnswer p (got es k) = entries.Done (length es) (digitTotal es) (p + k)
@@ -64,26 +63,40 @@ entriesAnswer p (bad y w) = entries.Refused (number y) (w + beyond y)
 
 -- the tokens of a well-formed list don't overlap, so the digits are no more than a text has bytes
 abbrev pub EntriesWithin : ℕ → ℕ → Entries → Type 0
-EntriesWithin p size (entries.Done n digits e) = (p < e) × (e ≤ size) × (n + p < e) × (digits ≤ 1048576)
+EntriesWithin p size (entries.Done n digits e) = (p < e) × (e ≤ size) × (n + p < e) × (digits ≤ mostBytes)
 EntriesWithin p size (entries.Refused c q) = Unit {0}
 
 pub record EntriesRead (sort : TableSort) (p i a size : ℕ) (read : Res (List TableEntry)) (st : List ℕ) (r : Entries) (st′ : List ℕ) : Type 0 where
   pub is : r ≡ entriesAnswer p read
-  pub table : Written 8 (entryRecords sort i a) read 0 st st′
+  pub table : Written statementWidth (entryRecords sort i a) read 0 st st′
   pub within : EntriesWithin p size r
 
 -- ---- the record
 
 -- the words fit
 pub record Sized (first name n digits e i a : ℕ) : Type 0 where
-  pub begun : first ≤ 65536
-  pub placed : name ≤ 65536
-  pub entries : n ≤ 65536
-  pub few : digits ≤ 1048576
-  pub at : e ≤ 65536
-  pub statementsBefore : i ≤ 65536
-  pub argumentsBefore : a ≤ 65536
+  pub begun : first ≤ mostTokens
+  pub placed : name ≤ mostTokens
+  pub entries : n ≤ mostTokens
+  pub few : digits ≤ mostBytes
+  pub at : e ≤ mostTokens
+  pub statementsBefore : i ≤ mostTokens
+  pub argumentsBefore : a ≤ mostTokens
 
-pub record TablePut (sort : TableSort) (first name n digits e i a : ℕ) (de : List ℕ) (r : DefRead) (de′ : List ℕ) : Type 0 where
-  pub is : r ≡ defs.Done (record { at = e; statements = n; arguments = 0; name = name; named = false })
-  pub table : de′ ≡ put 12 de 0 (tableNumber sort ∷ name ∷ first ∷ e ∷ a ∷ 0 ∷ a ∷ 0 ∷ i ∷ n ∷ sizeWith sort n digits ∷ 0 ∷ [])
+-- its definition
+abbrev pub tableOf : TableSort → ℕ → ℕ → ℕ → ℕ → ℕ → ℕ → ℕ → code.Definition
+tableOf sort first name n digits e i a =
+    record {
+      kind = tableNumber sort;
+      name = name;
+      first = first;
+      end = e;
+      argument = a;
+      arguments = 0;
+      output = a;
+      outputs = 0;
+      statement = i;
+      statements = n;
+      a = sizeWith sort n digits;
+      b = 0;
+    }

@@ -2,17 +2,19 @@
 use crate::head::Head;
 use crate::head::read_head;
 use crate::record::DefRead;
-use crate::record::Found;
-use crate::record::put_definition;
+use crate::record::Definition;
+use tokens::kind;
 use tokens::kind_at;
+use tokens::number;
+ghost use Prim.Native.Nat.{ℕ};
 ghost use mathlib.Core.Path.{_≡_};
+ghost use mathlib.Core.List.{List};
 ghost use lib.ListN.{length};
 ghost use Rattle.tokens.specs.Token.{view};
-ghost use Rattle.tokens.specs.Table.{put};
+ghost use Rattle.tokens.specs.Place.{Place, tokensFrom};
 ghost use Rattle.grammar.specs.FileReader.{parseConstant, constantRest};
-ghost use Rattle.statements.specs.Answers.{Place, tokensFrom};
 ghost use Rattle.definitions.specs.Answers.{Reading, DefParsed};
-ghost use Rattle.definitions.specs.Constant.{ValueRead, ConstantRead, ConstantFits, constantWords};
+ghost use Rattle.definitions.specs.Constant.{placeOf, valueType, ValueRead, ConstantRead, ConstantFits, constantOf};
 
 // A constant's value: a literal's place, or that of the free storage pointer.
 pub enum ConstVal {
@@ -40,30 +42,30 @@ pub enum ConstRead {
     Refused(u32, usize),
 }
 
-// `=` and a value: a constant behind its name. No text is looked at: it is passed for the view that the promise speaks of.
-fn value_behind(text: &[u8], tokens: &[u32], kept: &[u32], p: usize) -> ValRead
+// `=` and a value, whatever the text: a constant behind its name.
+fn value_behind(tokens: &[u32], kept: &[u32], p: usize) -> ValRead
     requires { ⌜ Place (now tokens) (now kept) p ⌝ }
-    ensures { λ r. ⌜ ValueRead p (length (now (kept .entry))) (constantRest p (tokensFrom (now (text .entry)) (now (tokens .entry)) (now (kept .entry)) p)) r ⌝ }
+    ensures { λ r. ⌜ ((text : List ℕ) → ValueRead p (length (now (kept .entry))) (constantRest p (tokensFrom text (now (tokens .entry)) (now (kept .entry)) p)) r) ⌝ }
 {
-    if kind_at(tokens, kept, p) != 26 {
-        return ValRead::Refused(1, p);
+    if kind_at(tokens, kept, p) != kind::ASSIGN {
+        return ValRead::Refused(number::UNEXPECTED_TYPE, p);
     }
     match kind_at(tokens, kept, p + 1) {
-        37 => ValRead::Value(ConstVal::FreeStoragePointer(p + 1)),
-        40 => ValRead::Value(ConstVal::Literal(p + 1)),
-        _ => ValRead::Refused(3, p + 1),
+        kind::FREE_STORAGE_POINTER => ValRead::Value(ConstVal::FreeStoragePointer(p + 1)),
+        kind::LITERAL => ValRead::Value(ConstVal::Literal(p + 1)),
+        _ => ValRead::Refused(number::INVALID_CONSTANT_VALUE, p + 1),
     }
 }
 
 // A constant, from the token Constant on.
-fn read_constant(text: &[u8], tokens: &[u32], kept: &[u32], first: usize, p: usize) -> ConstRead
+fn read_constant(tokens: &[u32], kept: &[u32], first: usize, p: usize) -> ConstRead
     requires { ⌜ Place (now tokens) (now kept) p ⌝ }
-    ensures { λ r. ⌜ ConstantRead (view (now (text .entry)) (now (tokens .entry)) (now (kept .entry))) first p (length (now (kept .entry)))
-        (parseConstant first p (tokensFrom (now (text .entry)) (now (tokens .entry)) (now (kept .entry)) p)) r ⌝ }
+    ensures { λ r. ⌜ ((text : List ℕ) → ConstantRead (view text (now (tokens .entry)) (now (kept .entry))) first p (length (now (kept .entry)))
+        (parseConstant first p (tokensFrom text (now (tokens .entry)) (now (kept .entry)) p)) r) ⌝ }
 {
-    match read_head(text, tokens, kept, 11, p) {
-        Head::Wrong(q) => ConstRead::Refused(1, q),
-        Head::Named => match value_behind(text, tokens, kept, p + 2) {
+    match read_head(tokens, kept, kind::CONSTANT, p) {
+        Head::Wrong(q) => ConstRead::Refused(number::UNEXPECTED_TYPE, q),
+        Head::Named => match value_behind(tokens, kept, p + 2) {
             ValRead::Value(v) => ConstRead::Constant(ConstantDefinition {
                 first: first,
                 end: p + 4,
@@ -75,78 +77,64 @@ fn read_constant(text: &[u8], tokens: &[u32], kept: &[u32], first: usize, p: usi
     }
 }
 
-// Its record. A and B tell the value: 1 and the literal's place, or 2 and the pointer's.
-fn put_constant(definitions: &mut [u32], d: ConstantDefinition, i: usize, a: usize)
-    requires { ⌜ ConstantFits d i a ⌝ }
-    ensures { λ _. ⌜ now (definitions .exit) ≡ put 12 (now (definitions .entry)) 0 (constantWords i a d) ⌝ }
+// What A and B say of the value: which it is, and its place.
+fn value_type(v: ConstVal) -> u32
+    ensures { λ r. ⌜ r ≡ valueType v ⌝ }
 {
-    let v = d.value;
     match v {
-        ConstVal::Literal(at) => {
-            put_definition(
-                definitions,
-                4,
-                d.name,
-                d.first,
-                d.end,
-                a,
-                0,
-                0,
-                i,
-                0,
-                1,
-                at as u32,
-            );
-        }
-        ConstVal::FreeStoragePointer(at) => {
-            put_definition(
-                definitions,
-                4,
-                d.name,
-                d.first,
-                d.end,
-                a,
-                0,
-                0,
-                i,
-                0,
-                2,
-                at as u32,
-            );
-        }
+        ConstVal::Literal(_) => number::VALUE_LITERAL,
+        ConstVal::FreeStoragePointer(_) => number::VALUE_POINTER,
     }
 }
 
-// The Rust's `parse_constant`.
+fn value_place(v: ConstVal) -> usize
+    ensures { λ r. ⌜ r ≡ placeOf v ⌝ }
+{
+    match v {
+        ConstVal::Literal(at) => at,
+        ConstVal::FreeStoragePointer(at) => at,
+    }
+}
+
+// Its definition, behind i statement and a argument records.
+fn constant_definition(d: ConstantDefinition, i: usize, a: usize) -> Definition
+    requires { ⌜ ConstantFits d i a ⌝ }
+    ensures { λ r. ⌜ r ≡ constantOf i a d ⌝ }
+{
+    let v = d.value;
+    let place = value_place(v) as u32;
+    let before = a as u32;
+    Definition {
+        kind: number::DEFINITION_CONSTANT,
+        name: d.name as u32,
+        first: d.first as u32,
+        end: d.end as u32,
+        argument: before,
+        arguments: 0,
+        output: before,
+        outputs: 0,
+        statement: i as u32,
+        statements: 0,
+        a: value_type(v),
+        b: place,
+    }
+}
+
+// The Rust's `parse_constant`. It has no statements and no arguments: whatever is lent for them stays.
 pub fn parse_constant(
-    text: &[u8],
     tokens: &[u32],
     kept: &[u32],
     first: usize,
     p: usize,
-    definitions: &mut [u32],
-    statements: &mut [u32],
-    arguments: &mut [u32],
     i: usize,
     a: usize,
 ) -> DefRead
     requires { ⌜ Reading (now tokens) (now kept) first p i a ⌝ }
-    ensures { λ r. ⌜ DefParsed 7 (view (now (text .entry)) (now (tokens .entry)) (now (kept .entry))) p i a (length (now (kept .entry)))
-        (parseConstant first p (tokensFrom (now (text .entry)) (now (tokens .entry)) (now (kept .entry)) p))
-        (now (definitions .entry)) (now (statements .entry)) (now (arguments .entry)) r
-        (now (definitions .exit)) (now (statements .exit)) (now (arguments .exit)) ⌝ }
+    ensures { λ r. ⌜ ((text st ar : List ℕ) → DefParsed 7 (view text (now (tokens .entry)) (now (kept .entry))) p i a (length (now (kept .entry)))
+        (parseConstant first p (tokensFrom text (now (tokens .entry)) (now (kept .entry)) p)) st ar r st ar) ⌝ }
 {
-    match read_constant(text, tokens, kept, first, p) {
-        ConstRead::Constant(d) => {
-            put_constant(definitions, d, i, a);
-            DefRead::Done(Found {
-                at: d.end,
-                statements: 0,
-                arguments: 0,
-                name: d.name,
-                named: false,
-            })
-        }
+    match read_constant(tokens, kept, first, p) {
+        ConstRead::Constant(d) => DefRead::Done(constant_definition(d, i, a), 0),
         ConstRead::Refused(c, q) => DefRead::Refused(c, q),
     }
 }

@@ -1,103 +1,100 @@
 // Definitions: imports, functions, events, errors, and the choice among all of them.
 //
 // Each reader is lent only the rest of each table from the first free record: its own records go to number 0 on, and i and a are the numbers of statement
-// and argument records before. `first` is the place of Define or Include.
+// and argument records before. `first` is the place of Define or Include. What a reader has no records for, it is not lent.
 use crate::constant::parse_constant;
 use crate::head::Head;
 use crate::head::read_head;
 use crate::macros::parse_macro;
 use crate::record::DefRead;
-use crate::record::Found;
+use crate::record::Definition;
 use crate::record::put_definition;
 use crate::signature::Behind;
+use crate::signature::Listed;
+use crate::signature::Signature;
 use crate::signature::function_behind;
 use crate::signature::list_behind;
 use crate::table::parse_table;
-use statements::argument::Sort;
+use tokens::kind;
 use tokens::kind_at;
+use tokens::number;
+ghost use Prim.Native.Nat.{ℕ};
 ghost use mathlib.Core.Path.{_≡_};
+ghost use mathlib.Core.List.{List};
 ghost use lib.ListN.{length};
 ghost use Rattle.tokens.specs.Token.{view};
+ghost use Rattle.tokens.specs.Place.{tokensFrom};
+ghost use Rattle.tokens.specs.Number.{UnexpectedType, InvalidDefinition};
 ghost use Rattle.grammar.specs.Result.{plain, expect};
 ghost use Rattle.grammar.specs.Rules.{base};
-ghost use Rattle.grammar.specs.FileReader.{parseImports, parseFunction, parseEvent, parseCustomError, named, byKind, kindTable, topLevel};
-ghost use Rattle.statements.specs.Answers.{tokensFrom};
-ghost use Rattle.definitions.specs.Answers.{Reading, DefParsed};
-ghost use Rattle.definitions.specs.Pieces.{listNumber, listRest, SignatureFits, SignaturePut};
+ghost use Rattle.grammar.specs.FileReader.{parseImports, parseFunction, named, byKind, kindTable, topLevel};
+ghost use Rattle.definitions.specs.Answers.{Reading, DefParsed, DefAdded};
+ghost use Rattle.definitions.specs.Pieces.{listNumber, listKind, listRest, Fitting, signatureOf, SignatureFits, signatureAnswer};
 
-// The record of a function, an event or an error, whose signature was read; a refusal is handed on.
-fn put_signature(
-    definitions: &mut [u32],
+// The definition of a function, an event or an error, as its signature says, behind i statement and a argument records.
+fn signature_definition(
     number: u32,
     first: usize,
     name: usize,
     i: usize,
     a: usize,
-    r: Behind,
-) -> DefRead
+    s: Signature,
+) -> Definition
+    requires { ⌜ Fitting first name i a s ⌝ }
+    ensures { λ r. ⌜ r ≡ signatureOf number first name i a s ⌝ }
+{
+    Definition {
+        kind: number,
+        name: name as u32,
+        first: first as u32,
+        end: s.end as u32,
+        argument: a as u32,
+        arguments: s.inputs as u32,
+        output: (a + s.inputs) as u32,
+        outputs: s.outputs as u32,
+        statement: i as u32,
+        statements: 0,
+        a: s.ty,
+        b: 0,
+    }
+}
+
+// The same, or the refusal handed on.
+fn signed(number: u32, first: usize, name: usize, i: usize, a: usize, r: Behind) -> DefRead
     requires { ⌜ SignatureFits first name i a r ⌝ }
-    ensures { λ d. ⌜ SignaturePut number first name i a r (now (definitions .entry)) d (now (definitions .exit)) ⌝ }
+    ensures { λ d. ⌜ d ≡ signatureAnswer number first name i a r ⌝ }
 {
     match r {
-        Behind::Signed(s) => {
-            put_definition(
-                definitions,
-                number,
-                name,
-                first,
-                s.end,
-                a,
-                s.inputs,
-                s.outputs,
-                i,
-                0,
-                s.ty,
-                0,
-            );
-            DefRead::Done(Found {
-                at: s.end,
-                statements: 0,
-                arguments: s.inputs + s.outputs,
-                name: name,
-                named: false,
-            })
-        }
+        Behind::Signed(s) => DefRead::Done(
+            signature_definition(number, first, name, i, a, s),
+            s.inputs + s.outputs,
+        ),
         Behind::Refused(c, q) => DefRead::Refused(c, q),
     }
 }
 
 // The Rust's `parse_imports`: Include and a Str, which is the name.
-pub fn parse_imports(
-    text: &[u8],
-    tokens: &[u32],
-    kept: &[u32],
-    p: usize,
-    definitions: &mut [u32],
-    statements: &mut [u32],
-    arguments: &mut [u32],
-    i: usize,
-    a: usize,
-) -> DefRead
+pub fn parse_imports(tokens: &[u32], kept: &[u32], p: usize, i: usize, a: usize) -> DefRead
     requires { ⌜ Reading (now tokens) (now kept) p p i a ⌝ }
-    ensures { λ r. ⌜ DefParsed 8 (view (now (text .entry)) (now (tokens .entry)) (now (kept .entry))) p i a (length (now (kept .entry)))
-        (parseImports p (tokensFrom (now (text .entry)) (now (tokens .entry)) (now (kept .entry)) p))
-        (now (definitions .entry)) (now (statements .entry)) (now (arguments .entry)) r
-        (now (definitions .exit)) (now (statements .exit)) (now (arguments .exit)) ⌝ }
+    ensures { λ r. ⌜ ((text st ar : List ℕ) → DefParsed 8 (view text (now (tokens .entry)) (now (kept .entry))) p i a (length (now (kept .entry)))
+        (parseImports p (tokensFrom text (now (tokens .entry)) (now (kept .entry)) p)) st ar r st ar) ⌝ }
 {
-    if kind_at(tokens, kept, p) != 3 {
-        return DefRead::Refused(1, p);
+    if kind_at(tokens, kept, p) != kind::INCLUDE {
+        return DefRead::Refused(number::UNEXPECTED_TYPE, p);
     }
-    if kind_at(tokens, kept, p + 1) != 43 {
-        return DefRead::Refused(1, p + 1);
+    if kind_at(tokens, kept, p + 1) != kind::STR {
+        return DefRead::Refused(number::UNEXPECTED_TYPE, p + 1);
     }
-    put_definition(definitions, 1, p + 1, p, p + 2, a, 0, 0, i, 0, 0, 0);
-    DefRead::Done(Found {
-        at: p + 2,
-        statements: 0,
-        arguments: 0,
-        name: p + 1,
-        named: false,
-    })
+    let nothing = Signature {
+        end: p + 2,
+        inputs: 0,
+        outputs: 0,
+        ty: 0,
+    };
+    DefRead::Done(
+        signature_definition(number::DEFINITION_IMPORT, p, p + 1, i, a, nothing),
+        0,
+    )
 }
 
 // The Rust's `parse_function`, from the token Function on.
@@ -107,129 +104,68 @@ pub fn parse_function(
     kept: &[u32],
     first: usize,
     p: usize,
-    definitions: &mut [u32],
-    statements: &mut [u32],
     arguments: &mut [u32],
     i: usize,
     a: usize,
 ) -> DefRead
     requires { ⌜ Reading (now tokens) (now kept) first p i a ⌝ }
-    ensures { λ r. ⌜ DefParsed 7 (view (now (text .entry)) (now (tokens .entry)) (now (kept .entry))) p i a (length (now (kept .entry)))
+    ensures { λ r. ⌜ ((st : List ℕ) → DefParsed 7 (view (now (text .entry)) (now (tokens .entry)) (now (kept .entry))) p i a (length (now (kept .entry)))
         (parseFunction first p (tokensFrom (now (text .entry)) (now (tokens .entry)) (now (kept .entry)) p))
-        (now (definitions .entry)) (now (statements .entry)) (now (arguments .entry)) r
-        (now (definitions .exit)) (now (statements .exit)) (now (arguments .exit)) ⌝ }
+        st (now (arguments .entry)) r st (now (arguments .exit))) ⌝ }
 {
-    match read_head(text, tokens, kept, 9, p) {
-        Head::Wrong(q) => DefRead::Refused(1, q),
+    match read_head(tokens, kept, kind::FUNCTION, p) {
+        Head::Wrong(q) => DefRead::Refused(number::UNEXPECTED_TYPE, q),
         Head::Named => {
             let r = function_behind(text, tokens, kept, p + 2, arguments);
-            put_signature(definitions, 2, first, p + 1, i, a, r)
+            signed(number::DEFINITION_FUNCTION, first, p + 1, i, a, r)
         }
     }
 }
 
-// A definition that is a list behind its name: an event or an error.
-fn parse_listed(
+// The kind of the token that it begins with.
+fn listed_kind(listed: Listed) -> u32
+    ensures { λ r. ⌜ r ≡ listKind listed ⌝ }
+{
+    match listed {
+        Listed::Event => kind::EVENT,
+        Listed::Error => kind::ERROR,
+    }
+}
+
+// The kind of its definition.
+fn listed_number(listed: Listed) -> u32
+    ensures { λ r. ⌜ r ≡ listNumber listed ⌝ }
+{
+    match listed {
+        Listed::Event => number::DEFINITION_EVENT,
+        Listed::Error => number::DEFINITION_ERROR,
+    }
+}
+
+// A definition that is a list behind its name: the Rust's `parse_event` and `parse_custom_error`, from the token Event or Error on.
+pub fn parse_listed(
     text: &[u8],
     tokens: &[u32],
     kept: &[u32],
-    kind: u32,
-    sort: Sort,
-    number: u32,
+    listed: Listed,
     first: usize,
     p: usize,
-    definitions: &mut [u32],
-    statements: &mut [u32],
     arguments: &mut [u32],
     i: usize,
     a: usize,
 ) -> DefRead
     requires { ⌜ Reading (now tokens) (now kept) first p i a ⌝ }
-    requires { ⌜ number ≡ listNumber sort ⌝ }
-    ensures { λ r. ⌜ DefParsed 7 (view (now (text .entry)) (now (tokens .entry)) (now (kept .entry))) p i a (length (now (kept .entry)))
-        (expect kind (plain 1) (λ k. named first (listRest sort)) p (tokensFrom (now (text .entry)) (now (tokens .entry)) (now (kept .entry)) p))
-        (now (definitions .entry)) (now (statements .entry)) (now (arguments .entry)) r
-        (now (definitions .exit)) (now (statements .exit)) (now (arguments .exit)) ⌝ }
+    ensures { λ r. ⌜ ((st : List ℕ) → DefParsed 7 (view (now (text .entry)) (now (tokens .entry)) (now (kept .entry))) p i a (length (now (kept .entry)))
+        (expect (listKind listed) (plain UnexpectedType) (λ k. named first (listRest listed)) p (tokensFrom (now (text .entry)) (now (tokens .entry)) (now (kept .entry)) p))
+        st (now (arguments .entry)) r st (now (arguments .exit))) ⌝ }
 {
-    match read_head(text, tokens, kept, kind, p) {
-        Head::Wrong(q) => DefRead::Refused(1, q),
+    match read_head(tokens, kept, listed_kind(listed), p) {
+        Head::Wrong(q) => DefRead::Refused(number::UNEXPECTED_TYPE, q),
         Head::Named => {
-            let r = list_behind(text, tokens, kept, sort, p + 2, arguments);
-            put_signature(definitions, number, first, p + 1, i, a, r)
+            let r = list_behind(text, tokens, kept, listed, p + 2, arguments);
+            signed(listed_number(listed), first, p + 1, i, a, r)
         }
     }
-}
-
-// The Rust's `parse_event`, from the token Event on.
-pub fn parse_event(
-    text: &[u8],
-    tokens: &[u32],
-    kept: &[u32],
-    first: usize,
-    p: usize,
-    definitions: &mut [u32],
-    statements: &mut [u32],
-    arguments: &mut [u32],
-    i: usize,
-    a: usize,
-) -> DefRead
-    requires { ⌜ Reading (now tokens) (now kept) first p i a ⌝ }
-    ensures { λ r. ⌜ DefParsed 7 (view (now (text .entry)) (now (tokens .entry)) (now (kept .entry))) p i a (length (now (kept .entry)))
-        (parseEvent first p (tokensFrom (now (text .entry)) (now (tokens .entry)) (now (kept .entry)) p))
-        (now (definitions .entry)) (now (statements .entry)) (now (arguments .entry)) r
-        (now (definitions .exit)) (now (statements .exit)) (now (arguments .exit)) ⌝ }
-{
-    parse_listed(
-        text,
-        tokens,
-        kept,
-        10,
-        Sort::Event,
-        3,
-        first,
-        p,
-        definitions,
-        statements,
-        arguments,
-        i,
-        a,
-    )
-}
-
-// The Rust's `parse_custom_error`, from the token Error on.
-pub fn parse_custom_error(
-    text: &[u8],
-    tokens: &[u32],
-    kept: &[u32],
-    first: usize,
-    p: usize,
-    definitions: &mut [u32],
-    statements: &mut [u32],
-    arguments: &mut [u32],
-    i: usize,
-    a: usize,
-) -> DefRead
-    requires { ⌜ Reading (now tokens) (now kept) first p i a ⌝ }
-    ensures { λ r. ⌜ DefParsed 7 (view (now (text .entry)) (now (tokens .entry)) (now (kept .entry))) p i a (length (now (kept .entry)))
-        (parseCustomError first p (tokensFrom (now (text .entry)) (now (tokens .entry)) (now (kept .entry)) p))
-        (now (definitions .entry)) (now (statements .entry)) (now (arguments .entry)) r
-        (now (definitions .exit)) (now (statements .exit)) (now (arguments .exit)) ⌝ }
-{
-    parse_listed(
-        text,
-        tokens,
-        kept,
-        12,
-        Sort::Typed,
-        5,
-        first,
-        p,
-        definitions,
-        statements,
-        arguments,
-        i,
-        a,
-    )
 }
 
 // What stands behind Define, by its kind.
@@ -239,7 +175,6 @@ fn define(
     kept: &[u32],
     first: usize,
     p: usize,
-    definitions: &mut [u32],
     statements: &mut [u32],
     arguments: &mut [u32],
     i: usize,
@@ -247,114 +182,65 @@ fn define(
 ) -> DefRead
     requires { ⌜ Reading (now tokens) (now kept) first p i a ⌝ }
     ensures { λ r. ⌜ DefParsed 7 (view (now (text .entry)) (now (tokens .entry)) (now (kept .entry))) p i a (length (now (kept .entry)))
-        (byKind (kindTable base first) (plain 2) p (tokensFrom (now (text .entry)) (now (tokens .entry)) (now (kept .entry)) p))
-        (now (definitions .entry)) (now (statements .entry)) (now (arguments .entry)) r
-        (now (definitions .exit)) (now (statements .exit)) (now (arguments .exit)) ⌝ }
+        (byKind (kindTable base first) (plain InvalidDefinition) p (tokensFrom (now (text .entry)) (now (tokens .entry)) (now (kept .entry)) p))
+        (now (statements .entry)) (now (arguments .entry)) r (now (statements .exit)) (now (arguments .exit)) ⌝ }
 {
     match kind_at(tokens, kept, p) {
-        // One place for all three, so that the compiler makes one function of both.
-        6 | 7 | 8 => parse_macro(
+        kind::MACRO | kind::FN | kind::TEST => parse_macro(
             text,
             tokens,
             kept,
             first,
             p,
-            definitions,
             statements,
             arguments,
             i,
             a,
         ),
-        9 => parse_function(
+        kind::FUNCTION => parse_function(text, tokens, kept, first, p, arguments, i, a),
+        kind::EVENT => parse_listed(text, tokens, kept, Listed::Event, first, p, arguments, i, a),
+        kind::CONSTANT => parse_constant(tokens, kept, first, p, i, a),
+        kind::ERROR => parse_listed(text, tokens, kept, Listed::Error, first, p, arguments, i, a),
+        kind::JUMP_TABLE | kind::JUMP_TABLE_PACKED | kind::CODE_TABLE => parse_table(
             text,
             tokens,
             kept,
             first,
             p,
-            definitions,
             statements,
-            arguments,
             i,
             a,
         ),
-        10 => parse_event(
-            text,
-            tokens,
-            kept,
-            first,
-            p,
-            definitions,
-            statements,
-            arguments,
-            i,
-            a,
-        ),
-        11 => parse_constant(
-            text,
-            tokens,
-            kept,
-            first,
-            p,
-            definitions,
-            statements,
-            arguments,
-            i,
-            a,
-        ),
-        12 => parse_custom_error(
-            text,
-            tokens,
-            kept,
-            first,
-            p,
-            definitions,
-            statements,
-            arguments,
-            i,
-            a,
-        ),
-        13 => parse_table(
-            text,
-            tokens,
-            kept,
-            first,
-            p,
-            definitions,
-            statements,
-            arguments,
-            i,
-            a,
-        ),
-        14 => parse_table(
-            text,
-            tokens,
-            kept,
-            first,
-            p,
-            definitions,
-            statements,
-            arguments,
-            i,
-            a,
-        ),
-        15 => parse_table(
-            text,
-            tokens,
-            kept,
-            first,
-            p,
-            definitions,
-            statements,
-            arguments,
-            i,
-            a,
-        ),
-        _ => DefRead::Refused(2, p),
+        _ => DefRead::Refused(number::INVALID_DEFINITION, p),
     }
 }
 
 // A definition at top level, where Pound is refused with a number of its own.
 pub fn top_level(
+    text: &[u8],
+    tokens: &[u32],
+    kept: &[u32],
+    p: usize,
+    statements: &mut [u32],
+    arguments: &mut [u32],
+    i: usize,
+    a: usize,
+) -> DefRead
+    requires { ⌜ Reading (now tokens) (now kept) p p i a ⌝ }
+    ensures { λ r. ⌜ DefParsed 8 (view (now (text .entry)) (now (tokens .entry)) (now (kept .entry))) p i a (length (now (kept .entry)))
+        (topLevel base p (tokensFrom (now (text .entry)) (now (tokens .entry)) (now (kept .entry)) p))
+        (now (statements .entry)) (now (arguments .entry)) r (now (statements .exit)) (now (arguments .exit)) ⌝ }
+{
+    match kind_at(tokens, kept, p) {
+        kind::INCLUDE => parse_imports(tokens, kept, p, i, a),
+        kind::DEFINE => define(text, tokens, kept, p, p + 1, statements, arguments, i, a),
+        kind::POUND => DefRead::Refused(number::POUND_AT_TOP_LEVEL, p),
+        _ => DefRead::Refused(number::UNEXPECTED_TYPE, p),
+    }
+}
+
+// A definition into the rest of each table that is still free: its record is the first of its rest.
+pub fn read_definition(
     text: &[u8],
     tokens: &[u32],
     kept: &[u32],
@@ -366,36 +252,16 @@ pub fn top_level(
     a: usize,
 ) -> DefRead
     requires { ⌜ Reading (now tokens) (now kept) p p i a ⌝ }
-    ensures { λ r. ⌜ DefParsed 8 (view (now (text .entry)) (now (tokens .entry)) (now (kept .entry))) p i a (length (now (kept .entry)))
-        (topLevel base p (tokensFrom (now (text .entry)) (now (tokens .entry)) (now (kept .entry)) p))
+    ensures { λ r. ⌜ DefAdded (view (now (text .entry)) (now (tokens .entry)) (now (kept .entry))) p i a (length (now (kept .entry)))
+        (topLevel base p (tokensFrom (now (text .entry)) (now (tokens .entry)) (now (kept .entry)) p)) 0 0 0
         (now (definitions .entry)) (now (statements .entry)) (now (arguments .entry)) r
         (now (definitions .exit)) (now (statements .exit)) (now (arguments .exit)) ⌝ }
 {
-    match kind_at(tokens, kept, p) {
-        3 => parse_imports(
-            text,
-            tokens,
-            kept,
-            p,
-            definitions,
-            statements,
-            arguments,
-            i,
-            a,
-        ),
-        4 => define(
-            text,
-            tokens,
-            kept,
-            p,
-            p + 1,
-            definitions,
-            statements,
-            arguments,
-            i,
-            a,
-        ),
-        5 => DefRead::Refused(21, p),
-        _ => DefRead::Refused(1, p),
+    match top_level(text, tokens, kept, p, statements, arguments, i, a) {
+        DefRead::Refused(c, q) => DefRead::Refused(c, q),
+        DefRead::Done(d, n) => {
+            put_definition(definitions, 0, d);
+            DefRead::Done(d, n)
+        }
     }
 }

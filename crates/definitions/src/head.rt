@@ -1,8 +1,11 @@
 // How a definition begins: its keyword and its name.
+use tokens::kind;
 use tokens::kind_at;
+ghost use Prim.Native.Nat.{ℕ};
+ghost use mathlib.Core.List.{List};
 ghost use lib.ListN.{length};
 ghost use Rattle.tokens.specs.Token.{view};
-ghost use Rattle.statements.specs.Answers.{Place};
+ghost use Rattle.tokens.specs.Place.{Place};
 ghost use Rattle.definitions.specs.Pieces.{Headed};
 
 // Both stand there; or the first wrong place.
@@ -11,15 +14,15 @@ pub enum Head {
     Wrong(usize),
 }
 
-// A token of this kind at p, and an Ident behind it. No text is looked at: it is passed for the view that the promise speaks of.
-pub fn read_head(text: &[u8], tokens: &[u32], kept: &[u32], kind: u32, p: usize) -> Head
+// A token of this kind at p, and an Ident behind it, whatever the text.
+pub fn read_head(tokens: &[u32], kept: &[u32], kind: u32, p: usize) -> Head
     requires { ⌜ Place (now tokens) (now kept) p ⌝ }
-    ensures { λ r. ⌜ Headed (view (now (text .entry)) (now (tokens .entry)) (now (kept .entry))) kind p (length (now (kept .entry))) r ⌝ }
+    ensures { λ r. ⌜ ((text : List ℕ) → Headed (view text (now (tokens .entry)) (now (kept .entry))) kind p (length (now (kept .entry))) r) ⌝ }
 {
     if kind_at(tokens, kept, p) != kind {
         return Head::Wrong(p);
     }
-    if kind_at(tokens, kept, p + 1) != 38 {
+    if kind_at(tokens, kept, p + 1) != kind::IDENT {
         return Head::Wrong(p + 1);
     }
     Head::Named

@@ -1,14 +1,13 @@
-// The definition layer: what a file defines, and the entry that reads a whole file.
-mod constant;
-mod definition;
-pub mod entry;
-mod file;
-mod head;
-mod macros;
-mod names;
-mod record;
-mod signature;
-mod table;
+// The definition layer: one definition of a file.
+pub mod constant;
+pub mod definition;
+pub mod head;
+pub mod macros;
+pub mod record;
+pub mod signature;
+pub mod table;
 
-pub use entry::File;
-pub use entry::read_file;
+pub use definition::read_definition;
+pub use record::DefRead;
+pub use record::Definition;
+pub use record::is_named;

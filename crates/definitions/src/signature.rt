@@ -1,15 +1,20 @@
 // What stands behind the name of a function, an event or an error.
-use statements::argument::Sort;
-use statements::list::ArgList;
-use statements::list::parse_args;
+use lists::argument::Sort;
+use lists::list::ArgList;
+use lists::list::parse_args;
+use tokens::kind;
 use tokens::kind_at;
-ghost use Prim.Native.Nat.{_≤_};
+use tokens::number;
+ghost use Prim.Native.Nat.{ℕ, _≤_};
+ghost use mathlib.Core.Path.{_≡_};
 ghost use mathlib.Core.List.{List};
 ghost use lib.ListN.{length};
+ghost use Rattle.tokens.specs.Number.{mostTokens};
 ghost use Rattle.grammar.specs.Reading.{Argument};
 ghost use Rattle.grammar.specs.FileReader.{functionType, functionRest};
-ghost use Rattle.statements.specs.Answers.{Place, tokensFrom};
-ghost use Rattle.definitions.specs.Pieces.{TypeRead, OutputsRead, SignatureRead, listNumber, listRest, outputsRest};
+ghost use Rattle.grammar.specs.FileRecords.{functionNumber};
+ghost use Rattle.tokens.specs.Place.{Place, tokensFrom};
+ghost use Rattle.definitions.specs.Pieces.{TypeRead, OutputsRead, SignatureRead, listSort, listNumber, listRest, outputsRest};
 
 // The place behind it, the inputs and outputs, and a function's type; an event and an error have no outputs and type 0.
 pub struct Signature {
@@ -25,21 +30,37 @@ pub enum Behind {
     Refused(u32, usize),
 }
 
+// What is a list behind its name.
+pub enum Listed {
+    Event,
+    Error,
+}
+
+// The sort of its list.
+fn list_sort(listed: Listed) -> Sort
+    ensures { λ r. ⌜ r ≡ listSort listed ⌝ }
+{
+    match listed {
+        Listed::Event => Sort::Event,
+        Listed::Error => Sort::Typed,
+    }
+}
+
 // An event's or an error's list.
 pub fn list_behind(
     text: &[u8],
     tokens: &[u32],
     kept: &[u32],
-    sort: Sort,
+    listed: Listed,
     p: usize,
     arguments: &mut [u32],
 ) -> Behind
     requires { ⌜ Place (now tokens) (now kept) p ⌝ }
-    ensures { λ r. ⌜ SignatureRead (listNumber sort) p (length (now (kept .entry)))
-        (listRest sort p (tokensFrom (now (text .entry)) (now (tokens .entry)) (now (kept .entry)) p))
+    ensures { λ r. ⌜ SignatureRead (listNumber listed) p (length (now (kept .entry)))
+        (listRest listed p (tokensFrom (now (text .entry)) (now (tokens .entry)) (now (kept .entry)) p))
         (now (arguments .entry)) r (now (arguments .exit)) ⌝ }
 {
-    match parse_args(text, tokens, kept, sort, p, arguments, 0) {
+    match parse_args(text, tokens, kept, list_sort(listed), p, arguments, 0) {
         ArgList::Done(n, e) => Behind::Signed(Signature {
             end: e,
             inputs: n,
@@ -50,16 +71,16 @@ pub fn list_behind(
     }
 }
 
-// A function's type, 1 to 4 in the order View, Pure, Payable, NonPayable; 0 if none stands at p.
-fn function_type(text: &[u8], tokens: &[u32], kept: &[u32], p: usize) -> u32
+// A function's type, in the order View, Pure, Payable, NonPayable; 0 if none stands at p, whatever the text.
+fn function_type(tokens: &[u32], kept: &[u32], p: usize) -> u32
     requires { ⌜ Place (now tokens) (now kept) p ⌝ }
-    ensures { λ r. ⌜ TypeRead p (length (now (kept .entry))) (functionType p (tokensFrom (now (text .entry)) (now (tokens .entry)) (now (kept .entry)) p)) r ⌝ }
+    ensures { λ r. ⌜ ((text : List ℕ) → TypeRead p (length (now (kept .entry))) (functionType p (tokensFrom text (now (tokens .entry)) (now (kept .entry)) p)) r) ⌝ }
 {
     match kind_at(tokens, kept, p) {
-        18 => 1,
-        19 => 2,
-        20 => 3,
-        21 => 4,
+        kind::VIEW => number::FUNCTION_VIEW,
+        kind::PURE => number::FUNCTION_PURE,
+        kind::PAYABLE => number::FUNCTION_PAYABLE,
+        kind::NON_PAYABLE => number::FUNCTION_NON_PAYABLE,
         _ => 0,
     }
 }
@@ -74,17 +95,17 @@ fn outputs_behind(
     n: usize,
 ) -> Behind
     requires { ⌜ Place (now tokens) (now kept) p ⌝ }
-    requires { ⌜ n ≤ 65536 ⌝ }
+    requires { ⌜ n ≤ mostTokens ⌝ }
     ensures { λ r. ⌜ ((inputs : List Argument) → OutputsRead inputs n p (length (now (kept .entry)))
         (outputsRest inputs p (tokensFrom (now (text .entry)) (now (tokens .entry)) (now (kept .entry)) p))
         (now (arguments .entry)) r (now (arguments .exit))) ⌝ }
 {
-    let ty = function_type(text, tokens, kept, p);
+    let ty = function_type(tokens, kept, p);
     if ty == 0 {
-        return Behind::Refused(1, p);
+        return Behind::Refused(number::UNEXPECTED_TYPE, p);
     }
-    if kind_at(tokens, kept, p + 1) != 17 {
-        return Behind::Refused(1, p + 1);
+    if kind_at(tokens, kept, p + 1) != kind::RETURNS {
+        return Behind::Refused(number::UNEXPECTED_TYPE, p + 1);
     }
     match parse_args(text, tokens, kept, Sort::Typed, p + 2, arguments, n) {
         ArgList::Done(m, e) => Behind::Signed(Signature {
@@ -106,7 +127,7 @@ pub fn function_behind(
     arguments: &mut [u32],
 ) -> Behind
     requires { ⌜ Place (now tokens) (now kept) p ⌝ }
-    ensures { λ r. ⌜ SignatureRead 2 p (length (now (kept .entry)))
+    ensures { λ r. ⌜ SignatureRead functionNumber p (length (now (kept .entry)))
         (functionRest p (tokensFrom (now (text .entry)) (now (tokens .entry)) (now (kept .entry)) p))
         (now (arguments .entry)) r (now (arguments .exit)) ⌝ }
 {

@@ -2,27 +2,29 @@
 //
 // Each entry is a statement record. i and a are the numbers of statement and argument records before the lent tables.
 use crate::record::DefRead;
-use crate::record::Found;
-use crate::record::put_words;
+use crate::record::Definition;
 use tokens::all_hex;
+use tokens::kind;
 use tokens::kind_at;
+use tokens::number;
 use tokens::put_record;
 use tokens::text_at;
-ghost use Prim.Native.Nat.{suc, _+_, _≤_, _<_};
+ghost use Prim.Native.Nat.{ℕ, suc, _+_, _≤_, _<_};
 ghost use mathlib.Core.Path.{_≡_};
 ghost use mathlib.Core.Bool.{_&&_};
-ghost use mathlib.Core.List.{[], _∷_};
+ghost use mathlib.Core.List.{List, [], _∷_};
 ghost use lib.Dec.{eqb};
 ghost use lib.ListN.{length};
+ghost use Rattle.tokens.specs.Number.{statementWidth, mostTokens};
 ghost use Rattle.tokens.specs.Kind.{Ident};
-ghost use Rattle.tokens.specs.Table.{put};
+ghost use Rattle.tokens.specs.Lent.{put};
 ghost use Rattle.tokens.specs.Token.{view, tokenAt, kindAt, textAt, Numbered};
 ghost use Rattle.grammar.specs.FileRecords.{entryType, tableNumber};
 ghost use Rattle.grammar.specs.FileGrammar.{entryAllowed};
 ghost use Rattle.grammar.specs.FileReader.{parseTableBody, tableRest, parseTable};
-ghost use Rattle.statements.specs.Answers.{tokensFrom};
+ghost use Rattle.tokens.specs.Place.{tokensFrom};
 ghost use Rattle.definitions.specs.Answers.{Reading, DefParsed};
-ghost use Rattle.definitions.specs.Tables.{tableSort, tableKind, sizeWith, pastSign, pastSigns, Past, entriesFrom, EntriesRead, Sized, TablePut};
+ghost use Rattle.definitions.specs.Tables.{tableSort, tableKind, sizeWith, pastSign, pastSigns, Past, entriesFrom, EntriesRead, Sized, tableOf};
 ghost use Rattle.definitions.specs.Behind.{behindName};
 
 // The three kinds of a table.
@@ -42,10 +44,10 @@ pub enum Entries {
 fn table_kind(k: u32) -> TableKind
     ensures { λ r. ⌜ r ≡ tableKind k ⌝ }
 {
-    if k <= 13 {
+    if k <= kind::JUMP_TABLE {
         return TableKind::Jump;
     }
-    if k <= 14 {
+    if k <= kind::JUMP_TABLE_PACKED {
         return TableKind::Packed;
     }
     TableKind::Code
@@ -56,9 +58,9 @@ fn table_number(kind: TableKind) -> u32
     ensures { λ r. ⌜ r ≡ tableNumber (tableSort kind) ⌝ }
 {
     match kind {
-        TableKind::Jump => 9,
-        TableKind::Packed => 10,
-        TableKind::Code => 11,
+        TableKind::Jump => number::DEFINITION_JUMP_TABLE,
+        TableKind::Packed => number::DEFINITION_PACKED_TABLE,
+        TableKind::Code => number::DEFINITION_CODE_TABLE,
     }
 }
 
@@ -67,15 +69,15 @@ fn entry_type(kind: TableKind) -> u32
     ensures { λ r. ⌜ r ≡ entryType (tableSort kind) ⌝ }
 {
     match kind {
-        TableKind::Jump => 3,
-        TableKind::Packed => 3,
-        TableKind::Code => 9,
+        TableKind::Jump => number::STATEMENT_LABEL_CALL,
+        TableKind::Packed => number::STATEMENT_LABEL_CALL,
+        TableKind::Code => number::STATEMENT_CODE,
     }
 }
 
 // Its size in bytes: 32 or 2 an entry, or two digits a byte.
 fn table_size(kind: TableKind, entries: usize, digits: usize) -> usize
-    requires { ⌜ entries ≤ 65536 ⌝ }
+    requires { ⌜ entries ≤ mostTokens ⌝ }
     ensures { λ r. ⌜ r ≡ sizeWith (tableSort kind) entries digits ⌝ }
 {
     match kind {
@@ -91,7 +93,7 @@ fn is_entry(text: &[u8], tokens: &[u32], kept: &[u32], kind: TableKind, p: usize
     ensures { λ r. ⌜ r ≡ (eqb (kindAt (now (tokens .entry)) (now (kept .entry)) p) Ident
         && entryAllowed (tableSort kind) (tokenAt (view (now (text .entry)) (now (tokens .entry)) (now (kept .entry))) p)) ⌝ }
 {
-    if kind_at(tokens, kept, p) != 38 {
+    if kind_at(tokens, kept, p) != kind::IDENT {
         return false;
     }
     match kind {
@@ -112,8 +114,8 @@ fn text_length(text: &[u8], tokens: &[u32], kept: &[u32], p: usize) -> usize
 
 // Statement record number m: the entry at place p, with i records before the table and a argument records before the definition.
 fn put_entry(statements: &mut [u32], m: usize, ty: u32, p: usize, i: usize, a: usize)
-    requires { ⌜ (m ≤ 65536) × (p ≤ 65536) × (i ≤ 65536) × (a ≤ 65536) ⌝ }
-    ensures { λ _. ⌜ now (statements .exit) ≡ put 8 (now (statements .entry)) m (ty ∷ p ∷ suc p ∷ suc (i + m) ∷ 0 ∷ a ∷ 0 ∷ p ∷ []) ⌝ }
+    requires { ⌜ (m ≤ mostTokens) × (p ≤ mostTokens) × (i ≤ mostTokens) × (a ≤ mostTokens) ⌝ }
+    ensures { λ _. ⌜ now (statements .exit) ≡ put statementWidth (now (statements .entry)) m (ty ∷ p ∷ suc p ∷ suc (i + m) ∷ 0 ∷ a ∷ 0 ∷ p ∷ []) ⌝ }
 {
     let place = p as u32;
     let end = (p + 1) as u32;
@@ -144,11 +146,11 @@ fn parse_entries(
     let mut m = 0;
     let mut digits = 0;
     loop {
-        if kind_at(tokens, kept, q) == 30 {
+        if kind_at(tokens, kept, q) == kind::CLOSE_BRACE {
             return Entries::Done(m, digits, q + 1);
         }
         if !is_entry(text, tokens, kept, kind, q) {
-            return Entries::Refused(11, q);
+            return Entries::Refused(number::INVALID_TABLE_BODY_TOKEN, q);
         }
         put_entry(statements, m, ty, q, i, a);
         digits += text_length(text, tokens, kept, q);
@@ -173,8 +175,8 @@ pub fn parse_table_body(
         (parseTableBody (tableSort kind) p (tokensFrom (now (text .entry)) (now (tokens .entry)) (now (kept .entry)) p))
         (now (statements .entry)) r (now (statements .exit)) ⌝ }
 {
-    if kind_at(tokens, kept, p) != 29 {
-        return Entries::Refused(1, p);
+    if kind_at(tokens, kept, p) != kind::OPEN_BRACE {
+        return Entries::Refused(number::UNEXPECTED_TYPE, p);
     }
     parse_entries(text, tokens, kept, kind, p + 1, statements, i, a)
 }
@@ -197,14 +199,13 @@ fn behind_signs(tokens: &[u32], kept: &[u32], p: usize) -> usize
     requires { ⌜ p ≤ length (now kept) ⌝ }
     ensures { λ r. ⌜ Past p (length (now (kept .entry))) (pastSigns (now (tokens .entry)) (now (kept .entry)) p) r ⌝ }
 {
-    let o = behind_sign(tokens, kept, 27, p);
-    let c = behind_sign(tokens, kept, 28, o);
-    behind_sign(tokens, kept, 26, c)
+    let o = behind_sign(tokens, kept, kind::OPEN_PAREN, p);
+    let c = behind_sign(tokens, kept, kind::CLOSE_PAREN, o);
+    behind_sign(tokens, kept, kind::ASSIGN, c)
 }
 
-// The record of a table whose n entries end before the place e.
-fn put_table(
-    definitions: &mut [u32],
+// A table whose n entries end before the place e, behind i statement and a argument records.
+fn table_definition(
     kind: TableKind,
     first: usize,
     name: usize,
@@ -213,35 +214,25 @@ fn put_table(
     e: usize,
     i: usize,
     a: usize,
-) -> DefRead
+) -> Definition
     requires { ⌜ Sized first name n digits e i a ⌝ }
-    ensures { λ r. ⌜ TablePut (tableSort kind) first name n digits e i a (now (definitions .entry)) r (now (definitions .exit)) ⌝ }
+    ensures { λ r. ⌜ r ≡ tableOf (tableSort kind) first name n digits e i a ⌝ }
 {
-    let size = table_size(kind, n, digits) as u32;
-    let number = table_number(kind);
     let before = a as u32;
-    put_words(
-        definitions,
-        number,
-        name as u32,
-        first as u32,
-        e as u32,
-        before,
-        0,
-        before,
-        0,
-        i as u32,
-        n as u32,
-        size,
-        0,
-    );
-    DefRead::Done(Found {
-        at: e,
-        statements: n,
+    Definition {
+        kind: table_number(kind),
+        name: name as u32,
+        first: first as u32,
+        end: e as u32,
+        argument: before,
         arguments: 0,
-        name: name,
-        named: false,
-    })
+        output: before,
+        outputs: 0,
+        statement: i as u32,
+        statements: n as u32,
+        a: table_size(kind, n, digits) as u32,
+        b: 0,
+    }
 }
 
 // From the place p behind the name on.
@@ -253,65 +244,51 @@ fn table_rest(
     first: usize,
     name: usize,
     p: usize,
-    definitions: &mut [u32],
     statements: &mut [u32],
-    arguments: &mut [u32],
     i: usize,
     a: usize,
 ) -> DefRead
     requires { ⌜ Reading (now tokens) (now kept) first p i a ⌝ }
     requires { ⌜ name ≤ p ⌝ }
-    ensures { λ r. ⌜ DefParsed 5 (view (now (text .entry)) (now (tokens .entry)) (now (kept .entry))) p i a (length (now (kept .entry)))
+    ensures { λ r. ⌜ ((ar : List ℕ) → DefParsed 5 (view (now (text .entry)) (now (tokens .entry)) (now (kept .entry))) p i a (length (now (kept .entry)))
         (behindName first name (view (now (text .entry)) (now (tokens .entry)) (now (kept .entry))) (tableRest (tableSort kind)) p)
-        (now (definitions .entry)) (now (statements .entry)) (now (arguments .entry)) r
-        (now (definitions .exit)) (now (statements .exit)) (now (arguments .exit)) ⌝ }
+        (now (statements .entry)) ar r (now (statements .exit)) ar) ⌝ }
 {
     let q = behind_signs(tokens, kept, p);
     match parse_table_body(text, tokens, kept, kind, q, statements, i, a) {
         Entries::Refused(c, w) => DefRead::Refused(c, w),
-        Entries::Done(n, digits, e) => put_table(
-            definitions,
-            kind,
-            first,
-            name,
-            n,
-            digits,
-            e,
-            i,
-            a,
+        Entries::Done(n, digits, e) => DefRead::Done(
+            table_definition(kind, first, name, n, digits, e, i, a),
+            0,
         ),
     }
 }
 
-// From the token JumpTable, JumpTablePacked or CodeTable on; `first` is the place of Define. A table has no arguments: that table is lent for the shape
-// which all readers of definitions share.
+// From the token JumpTable, JumpTablePacked or CodeTable on; `first` is the place of Define. It has no arguments: whatever is lent for them stays.
 pub fn parse_table(
     text: &[u8],
     tokens: &[u32],
     kept: &[u32],
     first: usize,
     p: usize,
-    definitions: &mut [u32],
     statements: &mut [u32],
-    arguments: &mut [u32],
     i: usize,
     a: usize,
 ) -> DefRead
     requires { ⌜ Reading (now tokens) (now kept) first p i a ⌝ }
-    ensures { λ r. ⌜ DefParsed 7 (view (now (text .entry)) (now (tokens .entry)) (now (kept .entry))) p i a (length (now (kept .entry)))
+    ensures { λ r. ⌜ ((ar : List ℕ) → DefParsed 7 (view (now (text .entry)) (now (tokens .entry)) (now (kept .entry))) p i a (length (now (kept .entry)))
         (parseTable first p (tokensFrom (now (text .entry)) (now (tokens .entry)) (now (kept .entry)) p))
-        (now (definitions .entry)) (now (statements .entry)) (now (arguments .entry)) r
-        (now (definitions .exit)) (now (statements .exit)) (now (arguments .exit)) ⌝ }
+        (now (statements .entry)) ar r (now (statements .exit)) ar) ⌝ }
 {
     let k = kind_at(tokens, kept, p);
-    if k < 13 {
-        return DefRead::Refused(1, p);
+    if k < kind::JUMP_TABLE {
+        return DefRead::Refused(number::UNEXPECTED_TYPE, p);
     }
-    if 15 < k {
-        return DefRead::Refused(1, p);
+    if kind::CODE_TABLE < k {
+        return DefRead::Refused(number::UNEXPECTED_TYPE, p);
     }
-    if kind_at(tokens, kept, p + 1) != 38 {
-        return DefRead::Refused(1, p + 1);
+    if kind_at(tokens, kept, p + 1) != kind::IDENT {
+        return DefRead::Refused(number::UNEXPECTED_TYPE, p + 1);
     }
     table_rest(
         text,
@@ -321,9 +298,7 @@ pub fn parse_table(
         first,
         p + 1,
         p + 2,
-        definitions,
         statements,
-        arguments,
         i,
         a,
     )

@@ -13,8 +13,8 @@ use Rattle.tokens.specs.Token.{Token}
 use Rattle.grammar.specs.Reading.{Reading}
 use Rattle.grammar.specs.Rules.{Rules}
 use Rattle.grammar.specs.Grammar.{Body, body}
-use Rattle.grammar.specs.Result.{Why, number, beyond, Res, got, bad}
-use Rattle.grammar.specs.Reader.{bodyFrom, Answer, read, refused, answer, bodyAt}
+use Rattle.grammar.specs.Result.{Why, number, beyond, Res, got, bad, Answer, read, refused, answer}
+use Rattle.grammar.specs.Reader.{bodyFrom, bodyAt}
 use Rattle.grammar.specs.Follows.{Follows, Begins, FirstWrong, past, isBodyNumber}
 use Rattle.grammar.specs.Means.{Means}
 use Rattle.grammar.proofs.Lists.{agree-less, agree-drop, not-less}
@@ -22,11 +22,11 @@ use Rattle.grammar.proofs.Holds.{Holds, well, ill}
 use Rattle.grammar.proofs.Sound.{Told, Any, body-holds}
 use Rattle.grammar.proofs.Complete.{body-complete}
 
-was-read : (x : Res Reading) (r : Reading) (n : ℕ) → answer x ≡ read r n → x ≡ got r n
+pub was-read : {A : Type 0} (x : Res A) (r : A) (n : ℕ) → answer x ≡ read r n → x ≡ got r n
 was-read (got r′ n′) r n e = cc
 was-read (bad y w) r n e = cc
 
-was-refused : (x : Res Reading) (c q : ℕ) → answer x ≡ refused c q → (y : Why) × (w : ℕ) × (x ≡ bad y w) × (number y ≡ c) × (w + beyond y ≡ q)
+pub was-refused : {A : Type 0} (x : Res A) (c q : ℕ) → answer x ≡ refused c q → (y : Why) × (w : ℕ) × (x ≡ bad y w) × (number y ≡ c) × (w + beyond y ≡ q)
 was-refused (got r n) c q e = absurd (omega (arith, let z : _≡_ {A = ℕ} 0 1 = cc in z))
 was-refused (bad y w) c q e = (y, w, refl, cc, cc)
 
@@ -159,7 +159,7 @@ refused-exactly m kept p inside = (
   (λ f. go (f .0) (f .1) (bodyAt m kept p) refl),
 )
   where
-    go : (w : ℕ) → FirstWrong m kept p w → (x : Answer) → bodyAt m kept p ≡ x → (c : ℕ) × (q : ℕ) × (bodyAt m kept p ≡ refused c q)
+    go : (w : ℕ) → FirstWrong m kept p w → (x : Answer Reading) → bodyAt m kept p ≡ x → (c : ℕ) × (q : ℕ) × (bodyAt m kept p ≡ refused c q)
     go w f (read r n) e = absurd (f .hopeless kept refl r n (demand-3 m kept p n r .0 e))
     go w f (refused c q) e = (c, q, e)
 
@@ -167,7 +167,7 @@ refused-exactly m kept p inside = (
 pub means : (m : Rules) (kept : List Token) (p : ℕ) → p ≤ length kept → Means m kept p (bodyAt m kept p)
 means m kept p inside = go (bodyAt m kept p) refl
   where
-    go : (x : Answer) → bodyAt m kept p ≡ x → Means m kept p x
+    go : (x : Answer Reading) → bodyAt m kept p ≡ x → Means m kept p x
     go (read r n) e = demand-3 m kept p n r .0 e
     go (refused c q) e = cursor m kept p c q inside e
 

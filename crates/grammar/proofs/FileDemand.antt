@@ -18,26 +18,19 @@ use Rattle.tokens.specs.Byte.{same}
 use Rattle.tokens.specs.Name.{oneOf}
 use Rattle.grammar.specs.Rules.{Rules}
 use Rattle.grammar.specs.Grammar.{Many, none, more}
-use Rattle.grammar.specs.Result.{Why, plain, number, beyond, Res, got, bad, choose}
+use Rattle.grammar.specs.Result.{Why, plain, number, beyond, Res, got, bad, choose, Answer, read, refused, answer}
 use Rattle.grammar.specs.Follows.{proper, allProper, past}
 use Rattle.grammar.specs.FileReading.{Definition, isMacro}
 use Rattle.grammar.specs.FileGrammar.{Defined, repeats, rememberName, Fresh, fresh, File}
-use Rattle.grammar.specs.FileReader.{byKind, topLevel, parse, FileAnswer, readFile, refusedFile, fileAnswer, fileAt}
+use Rattle.grammar.specs.FileReader.{byKind, topLevel, parse, fileAt}
 use Rattle.grammar.specs.FileFollows.{FollowsFile, macroNames, RepeatedAt, Reached, FirstWrongFile, CursorAt, hasTyped, pastIn, isDefinitionNumber}
 use Rattle.grammar.specs.FileMeans.{MeansFile, meansRead, meansRepeated, meansWrong}
+use Rattle.grammar.proofs.Demand.{was-read, was-refused}
 use Rattle.grammar.proofs.Lists.{agree-less, agree-drop, agree-cons, agree-none, not-less}
 use Rattle.grammar.proofs.Holds.{Holds, ill, NoneOrOne, nothing, one, some-of}
 use Rattle.grammar.proofs.FileSound.{Top, top-holds, top-cursor, pound-only}
 use Rattle.grammar.proofs.FileComplete.{top-complete}
 use Rattle.grammar.proofs.FileRuns.{seenAfter, Going, out, goes, Runs, whole, halted, twice, runs, run-end, run-bad, turn-bad, here-again}
-
-was-read : (x : Res (List Definition)) (ds : List Definition) (n : ℕ) → fileAnswer x ≡ readFile ds n → x ≡ got ds n
-was-read (got es k) ds n e = cc
-was-read (bad y w) ds n e = cc
-
-was-refused : (x : Res (List Definition)) (c q : ℕ) → fileAnswer x ≡ refusedFile c q → (y : Why) × (w : ℕ) × (x ≡ bad y w) × (number y ≡ c) × (w + beyond y ≡ q)
-was-refused (got ds n) c q e = absurd (omega (arith, let z : _≡_ {A = ℕ} 0 1 = cc in z))
-was-refused (bad y w) c q e = (y, w, refl, cc, cc)
 
 token-at : (p : ℕ) (kept : List Token) → tokenAt (drop p kept) 0 ≡ tokenAt kept p
 token-at p kept = getD-drop p kept 0 eofToken ∙ ap (tokenAt kept) (add-zero p)
@@ -58,24 +51,24 @@ module _ (m : Rules) (names : Bool) where
       ∙ ap (got ds) (length-take-le n kept w)
 
   -- Theorem 1. Accepted with ds and Eof at n exactly if the n tokens before it are a file that reads ds
-  pub file-demand : (kept : List Token) (n : ℕ) (ds : List Definition) → (fileAt m names kept ≡ readFile ds n) ↔ FollowsFile m names kept n ds
+  pub file-demand : (kept : List Token) (n : ℕ) (ds : List Definition) → (fileAt m names kept ≡ read ds n) ↔ FollowsFile m names kept n ds
   unfolding fileAt
   file-demand kept n ds = (
     (λ e. sound kept n ds (at-file kept (got ds n) (was-read (parse m names [] 0 kept) ds n e))),
-    (λ h. ap fileAnswer (complete kept n ds h)),
+    (λ h. ap answer (complete kept n ds h)),
   )
 
   -- a file has only one reading
   pub file-only-one : (kept : List Token) (n n′ : ℕ) (ds ds′ : List Definition) → FollowsFile m names kept n ds → FollowsFile m names kept n′ ds′ → (n ≡ n′) × (ds ≡ ds′)
   file-only-one kept n n′ ds ds′ h h′ =
-      let e : fileAt m names kept ≡ readFile ds n = file-demand kept n ds .1 h in
-      let e′ : fileAt m names kept ≡ readFile ds′ n′ = file-demand kept n′ ds′ .1 h′ in
+      let e : fileAt m names kept ≡ read ds n = file-demand kept n ds .1 h in
+      let e′ : fileAt m names kept ≡ read ds′ n′ = file-demand kept n′ ds′ .1 h′ in
       ((cc), (cc))
 
   -- a refused one has none
-  pub file-refused-none : (kept : List Token) (c q : ℕ) → fileAt m names kept ≡ refusedFile c q → (n : ℕ) (ds : List Definition) → ¬ FollowsFile m names kept n ds
+  pub file-refused-none : (kept : List Token) (c q : ℕ) → fileAt m names kept ≡ refused c q → (n : ℕ) (ds : List Definition) → ¬ FollowsFile m names kept n ds
   file-refused-none kept c q e n ds h =
-      let e′ : fileAt m names kept ≡ readFile ds n = file-demand kept n ds .1 h in
+      let e′ : fileAt m names kept ≡ read ds n = file-demand kept n ds .1 h in
       let z : _≡_ {A = ℕ} 0 1 = cc in
       omega arith
 
@@ -119,21 +112,21 @@ same-halt m names names′ kept other y w weaken (halted n {ds = ds} {w = v} {us
         ∙ turn-bad m names′ (seenAfter [] ds) v (drop n other) y w (going-agrees (b .off) us (drop n other) back g) (b .sure (drop n other) back))
 
 -- Theorem 3. Refused at cursor q with a number other than 20, every list with the same tokens from place 0 to q is refused alike
-pub file-same-refusal : (m : Rules) (names : Bool) (kept other : List Token) (c q : ℕ) → fileAt m names kept ≡ refusedFile c q → eqb c 20 ≡ false → take (suc q) kept ≡ take (suc q) other
-    → fileAt m names other ≡ refusedFile c q
+pub file-same-refusal : (m : Rules) (names : Bool) (kept other : List Token) (c q : ℕ) → fileAt m names kept ≡ refused c q → eqb c 20 ≡ false → take (suc q) kept ≡ take (suc q) other
+    → fileAt m names other ≡ refused c q
 unfolding fileAt
 file-same-refusal m names kept other c q e h a =
     let (y, w, x, cy, cw) = was-refused (parse m names [] 0 kept) c q e in
     let r = same-halt m names names kept other y w (λ n ds f. f) (at-file m names kept (bad y w) x) (rw cy h) (agree-less (suc w) (suc q) kept other (omega arith) a) in
-    ap fileAnswer r ∙ cc
+    ap answer r ∙ cc
 
 -- with another number than 20, the rule on names plays no part
-pub names-aside : (m : Rules) (names : Bool) (kept : List Token) (c q : ℕ) → fileAt m names kept ≡ refusedFile c q → eqb c 20 ≡ false → fileAt m false kept ≡ refusedFile c q
+pub names-aside : (m : Rules) (names : Bool) (kept : List Token) (c q : ℕ) → fileAt m names kept ≡ refused c q → eqb c 20 ≡ false → fileAt m false kept ≡ refused c q
 unfolding fileAt
 names-aside m names kept c q e h =
     let (y, w, x, cy, cw) = was-refused (parse m names [] 0 kept) c q e in
     let r = same-halt m names false kept kept y w (λ n ds f. relax m names [] 0 (take n kept) ds f) (at-file m names kept (bad y w) x) (rw cy h) refl in
-    ap fileAnswer r ∙ cc
+    ap answer r ∙ cc
 
 -- definitions behind definitions
 many-append : (m : Rules) (names : Bool) (seen : List (List ℕ)) (p : ℕ) (xs ys : List Token) (ds es : List Definition) → Many rememberName (Fresh m names) seen p xs ds
@@ -203,7 +196,7 @@ first-wrong m kept y w (halted n {ds = ds} {w = v} {us = us} l e u s g x) h = go
 
 -- Theorem 4. For every refusal but 20 there is a first token that the rules don't allow, the rule on names left aside, and the cursor is it, or one past it in
 -- document 01's two cases
-pub file-cursor : (m : Rules) (names : Bool) (kept : List Token) (c q : ℕ) → fileAt m names kept ≡ refusedFile c q → eqb c 20 ≡ false → (w : ℕ) × FirstWrongFile m kept w × CursorAt m kept c q w
+pub file-cursor : (m : Rules) (names : Bool) (kept : List Token) (c q : ℕ) → fileAt m names kept ≡ refused c q → eqb c 20 ≡ false → (w : ℕ) × FirstWrongFile m kept w × CursorAt m kept c q w
 unfolding fileAt
 file-cursor m names kept c q e h =
     let (y, w, x, cy, cw) = was-refused (parse m false [] 0 kept) c q (names-aside m names kept c q e h) in
@@ -239,7 +232,7 @@ not-twenty m c h e = false≢true (sym (no (m .namesOnce)) ∙ ap (λ k. isDefin
     no false = refl
 
 -- the numbers of a refused file: a definition's (1 to 13), 20, 21
-pub file-numbers : (m : Rules) (names : Bool) (kept : List Token) (c q : ℕ) → fileAt m names kept ≡ refusedFile c q → (isDefinitionNumber m c || eqb c 21 || eqb c 20) ≡ true
+pub file-numbers : (m : Rules) (names : Bool) (kept : List Token) (c q : ℕ) → fileAt m names kept ≡ refused c q → (isDefinitionNumber m c || eqb c 21 || eqb c 20) ≡ true
 unfolding fileAt
 file-numbers m names kept c q e =
     let (y, w, x, cy, cw) = was-refused (parse m names [] 0 kept) c q e in
@@ -270,7 +263,7 @@ unfolding repeats oneOf
 seen-repeats ds d = ap (λ b. isMacro (d .form) && b) (seen-names [] ds (d .token .text) ∙ or-false (oneOf (macroNames ds) (d .token .text)))
 
 -- 20 is given exactly where a macro, fn or test stands whole behind definitions without a repeated name, and repeats one of theirs: at its name
-pub file-repeated : (m : Rules) (kept : List Token) (q : ℕ) → (fileAt m true kept ≡ refusedFile 20 q) ↔ RepeatedAt m kept q
+pub file-repeated : (m : Rules) (kept : List Token) (q : ℕ) → (fileAt m true kept ≡ refused 20 q) ↔ RepeatedAt m kept q
 unfolding fileAt
 file-repeated m kept q = (
   (λ e.
@@ -278,13 +271,13 @@ file-repeated m kept q = (
       from y w cy cw (at-file m true kept (bad y w) x)),
   (λ r.
       let long : 0 + length (take (r .n) kept) ≡ r .n = omega (arith, r .inside, length-take-le (r .n) kept (omega (arith, r .inside))) in
-      ap fileAnswer
+      ap answer
       (ap (parse m true [] 0) (sym (take-append-drop (r .n) kept))
       ∙ run-bad m true [] 0 (take (r .n) kept) (r .before) (r .begins) (drop (r .n) kept) (plain 20) (r .again .name)
       (ap (λ k. parse m true (seenAfter [] (r .before)) k (drop (r .n) kept)) long
       ∙ ap (parse m true (seenAfter [] (r .before)) (r .n)) (sym (take-append-drop (r .k) (drop (r .n) kept)))
       ∙ here-again m true (seenAfter [] (r .before)) (r .n) (take (r .k) (drop (r .n) kept)) (drop (r .k) (drop (r .n) kept)) (r .again) (r .stands) (seen-repeats (r .before) (r .again) ∙ r .twice)))
-      ∙ ap (refusedFile 20) (add-zero (r .again .name) ∙ sym (r .place))),
+      ∙ ap (refused 20) (add-zero (r .again .name) ∙ sym (r .place))),
 )
   where
     from : (y : Why) (w : ℕ) → number y ≡ 20 → w + beyond y ≡ q → Runs m true [] 0 kept (bad y w) → RepeatedAt m kept q
@@ -301,7 +294,7 @@ pound-cursor m p ts y q e n =
     top-cursor m p ts y q e ∙ ap (λ c. pastIn b c (drop (q - p) ts)) n ∙ z
 
 -- 21 is given exactly where definitions stand up to a Pound
-pub file-pound : (m : Rules) (names : Bool) (kept : List Token) (q : ℕ) → (fileAt m names kept ≡ refusedFile 21 q) ↔ Reached m names kept Pound q
+pub file-pound : (m : Rules) (names : Bool) (kept : List Token) (q : ℕ) → (fileAt m names kept ≡ refused 21 q) ↔ Reached m names kept Pound q
 unfolding fileAt topLevel byKind choose
 file-pound m names kept q = (
   (λ e.
@@ -311,12 +304,12 @@ file-pound m names kept q = (
       let long : 0 + length (take q kept) ≡ q = omega (arith, r .inside, length-take-le q kept (omega (arith, r .inside))) in
       let here : drop q kept ≡ tokenAt kept q ∷ drop (suc q) kept = drop-cons kept q eofToken (r .inside) in
       let top : topLevel m q (tokenAt kept q ∷ drop (suc q) kept) ≡ bad (plain 21) q = rw (r .here) in
-      ap fileAnswer
+      ap answer
       (ap (parse m names [] 0) (sym (take-append-drop q kept) ∙ ap (λ ts. take q kept ++ ts) here)
       ∙ run-bad m names [] 0 (take q kept) (r .before) (r .begins) (tokenAt kept q ∷ drop (suc q) kept) (plain 21) q
       (ap (λ k. parse m names (seenAfter [] (r .before)) k (tokenAt kept q ∷ drop (suc q) kept)) long
       ∙ turn-bad m names (seenAfter [] (r .before)) q (tokenAt kept q ∷ drop (suc q) kept) (plain 21) q (goes (rw (r .here))) top))
-      ∙ ap (refusedFile 21) (add-zero q)),
+      ∙ ap (refused 21) (add-zero q)),
 )
   where
     some : (us : List Token) → Going us → tokenAt us 0 .kind ≡ Pound → 0 < length us
@@ -336,7 +329,7 @@ file-pound m names kept q = (
         }
 
 -- without the rule on names: refused exactly if some place is the first wrong one
-pub file-refused-exactly : (m : Rules) (kept : List Token) → ((c : ℕ) × (q : ℕ) × (fileAt m false kept ≡ refusedFile c q)) ↔ ((w : ℕ) × FirstWrongFile m kept w)
+pub file-refused-exactly : (m : Rules) (kept : List Token) → ((c : ℕ) × (q : ℕ) × (fileAt m false kept ≡ refused c q)) ↔ ((w : ℕ) × FirstWrongFile m kept w)
 unfolding fileAt
 file-refused-exactly m kept = (
   (λ e.
@@ -350,21 +343,21 @@ file-refused-exactly m kept = (
     no-twenty y w (twice n k l e u s x f) = absurd (false≢true f)
     no-twenty y w (halted n {w = v} {us = us} l e u s g x) = ne-eqb (number y) 20 (not-twenty m (number y) (top-number m false v us y w x))
 
-    go : (w : ℕ) → FirstWrongFile m kept w → (x : FileAnswer) → fileAt m false kept ≡ x → (c : ℕ) × (q : ℕ) × (fileAt m false kept ≡ refusedFile c q)
-    go w f (readFile ds n) e = absurd (f .hopeless kept refl n ds (file-demand m false kept n ds .0 e))
-    go w f (refusedFile c q) e = (c, q, e)
+    go : (w : ℕ) → FirstWrongFile m kept w → (x : Answer (List Definition)) → fileAt m false kept ≡ x → (c : ℕ) × (q : ℕ) × (fileAt m false kept ≡ refused c q)
+    go w f (read ds n) e = absurd (f .hopeless kept refl n ds (file-demand m false kept n ds .0 e))
+    go w f (refused c q) e = (c, q, e)
 
 -- what every answer means, without the reader
 pub file-means : (m : Rules) (kept : List Token) → MeansFile m kept (fileAt m true kept)
 file-means m kept = go (fileAt m true kept) refl
   where
-    refused : (c q : ℕ) → fileAt m true kept ≡ refusedFile c q → (b : Bool) → eqb c 20 ≡ b → MeansFile m kept (refusedFile c q)
-    refused c q e true h = let k : c ≡ 20 = eqb-true c 20 h in meansRepeated k (file-repeated m kept q .0 (e ∙ ap (λ j. refusedFile j q) k))
-    refused c q e false h = let f = file-cursor m true kept c q e h in meansWrong (f .0) h (f .1) (f .2)
+    wrong : (c q : ℕ) → fileAt m true kept ≡ refused c q → (b : Bool) → eqb c 20 ≡ b → MeansFile m kept (refused c q)
+    wrong c q e true h = let k : c ≡ 20 = eqb-true c 20 h in meansRepeated k (file-repeated m kept q .0 (e ∙ ap (λ j. refused j q) k))
+    wrong c q e false h = let f = file-cursor m true kept c q e h in meansWrong (f .0) h (f .1) (f .2)
 
-    go : (x : FileAnswer) → fileAt m true kept ≡ x → MeansFile m kept x
-    go (readFile ds n) e = meansRead (file-demand m true kept n ds .0 e)
-    go (refusedFile c q) e = refused c q e (eqb c 20) refl
+    go : (x : Answer (List Definition)) → fileAt m true kept ≡ x → MeansFile m kept x
+    go (read ds n) e = meansRead (file-demand m true kept n ds .0 e)
+    go (refused c q) e = wrong c q e (eqb c 20) refl
 
 -- a proper token is no Eof
 no-eof : (ts : List Token) (n : ℕ) → allProper ts ≡ true → n < length ts → tokenAt ts n .kind ≡ Eof → ⊥
@@ -375,7 +368,7 @@ no-eof (t ∷ ts) (suc n) h l e = no-eof ts n (and-eq-true-iff (proper t) (allPr
 
 -- Theorem 1 where Eof stands last and nowhere else: accepted exactly if the tokens before it are a file
 pub file-before-eof : (m : Rules) (names : Bool) (ts : List Token) (e : Token) (n : ℕ) (ds : List Definition) → allProper ts ≡ true → e .kind ≡ Eof
-    → (fileAt m names (ts ++ (e ∷ [])) ≡ readFile ds n) ↔ ((n ≡ length ts) × File m names ts ds)
+    → (fileAt m names (ts ++ (e ∷ [])) ≡ read ds n) ↔ ((n ≡ length ts) × File m names ts ds)
 file-before-eof m names ts e n ds h k = (
   (λ f.
       let (l, x, g) = file-demand m names (ts ++ (e ∷ [])) n ds .0 f in

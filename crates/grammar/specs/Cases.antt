@@ -5,10 +5,10 @@ use mathlib.Core.List.{List, [], _∷_, _++_}
 use Rattle.tokens.specs.Byte.{bytes}
 use Rattle.tokens.specs.Token.{Token, eofToken}
 use Rattle.tokens.specs.Kind.{Calldata, Memory, OpenParen, CloseParen, OpenBrace, CloseBrace, OpenBracket, CloseBracket, LeftAngle, RightAngle, Comma, Colon, Ident, Label, Literal, Opcode, Str, BuiltinFunction, PrimitiveType}
-use Rattle.grammar.specs.Reading.{NONE}
+use Rattle.grammar.specs.Reading.{NONE, Reading}
 use Rattle.grammar.specs.Records.{statementRecords, argumentRecords, statementCount, argumentCount}
 use Rattle.grammar.specs.PlainLength.{plainLength}
-use Rattle.grammar.specs.Reader.{Answer, read, refused}
+use Rattle.grammar.specs.Result.{Answer, read, refused}
 
 -- what a body call answers: number, cursor, statements, arguments, plain length; and the records of both tables
 pub record Outcome : Type 0 where
@@ -17,7 +17,7 @@ pub record Outcome : Type 0 where
   pub arguments : List (List ℕ)
 
 -- of an answer of the call at place p; refused, counts and length are 0 and there are no records
-abbrev pub outcome : ℕ → Answer → Outcome
+abbrev pub outcome : ℕ → Answer Reading → Outcome
 outcome p (read r n) = record { answers = 0 ∷ (p + n) ∷ statementCount r ∷ argumentCount r ∷ plainLength r ∷ []; statements = statementRecords 0 0 r; arguments = argumentRecords r }
 outcome p (refused c q) = record { answers = c ∷ q ∷ 0 ∷ 0 ∷ 0 ∷ []; statements = []; arguments = [] }
 

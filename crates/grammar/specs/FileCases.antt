@@ -5,8 +5,9 @@ use lib.ListN.{length}
 use Rattle.tokens.specs.Token.{Token, eofToken}
 use Rattle.tokens.specs.Kind.{Include, Define, Pound, Macro, Fn, Test, Function, Event, Constant, Error, JumpTable, JumpTablePacked, CodeTable, Takes, Returns, View, Indexed, Calldata, Memory, Assign, OpenParen, CloseParen, OpenBrace, CloseBrace, Comma, Colon, FreeStoragePointer, Ident, Label, Literal, Num, Str, PrimitiveType}
 use Rattle.grammar.specs.Reading.{NONE}
+use Rattle.grammar.specs.FileReading.{Definition}
 use Rattle.grammar.specs.FileRecords.{definitionRecords, fileStatements, fileArguments, fileArgumentRecords, fileStatementCount}
-use Rattle.grammar.specs.FileReader.{FileAnswer, readFile, refusedFile}
+use Rattle.grammar.specs.Result.{Answer, read, refused}
 use Rattle.grammar.specs.Cases.{mark, word}
 
 -- what a file call answers: number, cursor, definitions, statements, arguments; and the records of the three tables
@@ -17,15 +18,15 @@ pub record FileOutcome : Type 0 where
   pub arguments : List (List ℕ)
 
 -- of an answer; refused, the counts are 0 and there are no records
-abbrev pub fileOutcome : FileAnswer → FileOutcome
-fileOutcome (readFile ds n) =
+abbrev pub fileOutcome : Answer (List Definition) → FileOutcome
+fileOutcome (read ds n) =
     record {
       answers = 0 ∷ n ∷ length ds ∷ fileStatementCount ds ∷ length (fileArguments ds) ∷ [];
       definitions = definitionRecords 0 0 ds;
       statements = fileStatements 0 0 ds;
       arguments = fileArgumentRecords ds;
     }
-fileOutcome (refusedFile c q) = record { answers = c ∷ q ∷ 0 ∷ 0 ∷ 0 ∷ []; definitions = []; statements = []; arguments = [] }
+fileOutcome (refused c q) = record { answers = c ∷ q ∷ 0 ∷ 0 ∷ 0 ∷ []; definitions = []; statements = []; arguments = [] }
 
 -- a number token
 abbrev pub num : ℕ → Token

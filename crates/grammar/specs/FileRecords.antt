@@ -20,12 +20,28 @@ tableNumber packedTable = 10
 tableNumber codeTable = 11
 
 -- 1 import, 2 function, 3 event, 4 constant, 5 error
+abbrev pub importNumber : ℕ
+importNumber = 1
+
+abbrev pub functionNumber : ℕ
+functionNumber = 2
+
+abbrev pub eventNumber : ℕ
+eventNumber = 3
+
+abbrev pub constantNumber : ℕ
+constantNumber = 4
+
+abbrev pub errorNumber : ℕ
+errorNumber = 5
+
+-- the kind of a definition
 abbrev pub kindNumber : Form → ℕ
-kindNumber anImport = 1
-kindNumber (aFunction inputs type outputs) = 2
-kindNumber (anEvent args) = 3
-kindNumber (aDefinedConstant v) = 4
-kindNumber (anError args) = 5
+kindNumber anImport = importNumber
+kindNumber (aFunction inputs type outputs) = functionNumber
+kindNumber (anEvent args) = eventNumber
+kindNumber (aDefinedConstant v) = constantNumber
+kindNumber (anError args) = errorNumber
 kindNumber (aMacro sort args takes returns r) = macroNumber sort
 kindNumber (aTable sort es) = tableNumber sort
 

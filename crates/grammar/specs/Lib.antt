@@ -19,3 +19,5 @@ pub mod FileFollows
 pub mod FileMeans
 pub mod FileCases
 pub mod Typed
+pub mod Written
+pub mod Call

@@ -5,7 +5,11 @@ use mathlib.Core.List.{List, [], _∷_, _++_, map}
 use lib.ListN.{length}
 use Rattle.grammar.specs.Reading.{Argument, Simple, Group, Reading, Sort, aLiteral, anOpcode, aLabelCall, anInvocation, aConstant, anArgumentCall, aBuiltin}
 
--- the type number of a statement; 5 is a label
+-- the type number of a label
+abbrev pub labelType : ℕ
+labelType = 5
+
+-- that of any other statement
 abbrev pub typeOf : Sort → ℕ
 typeOf aLiteral = 1
 typeOf anOpcode = 2
@@ -21,7 +25,7 @@ simpleRecord i a s = typeOf (s .sort) ∷ s .first ∷ s .end ∷ suc i ∷ 0 �
 
 -- the same for a label: its inner records follow it directly, and it has no arguments of its own
 abbrev pub labelRecord : ℕ → ℕ → Group → List ℕ
-labelRecord i a g = 5 ∷ g .first ∷ g .end ∷ suc i ∷ length (g .inner) ∷ a ∷ 0 ∷ g .first ∷ []
+labelRecord i a g = labelType ∷ g .first ∷ g .end ∷ suc i ∷ length (g .inner) ∷ a ∷ 0 ∷ g .first ∷ []
 
 -- form, type place, name place, indexed, location, first, end
 abbrev pub argumentRecord : Argument → List ℕ

@@ -4,6 +4,7 @@ use mathlib.Core.Bool.{Bool, true, false, cond}
 use mathlib.Core.List.{List, [], _∷_}
 use lib.ListN.{drop}
 use lib.Dec.{eqb}
+use Rattle.tokens.specs.Number.{InvalidPush, InvalidArgs}
 use Rattle.tokens.specs.Token.{Token, tokenAt}
 
 -- why a token is refused: with a number at its own place; as a literal too large for its push; as a Comma that is eaten first
@@ -15,8 +16,8 @@ pub data Why : Type 0 where
 -- document 01's number
 abbrev pub number : Why → ℕ
 number (plain n) = n
-number overflow = 4
-number eaten = 8
+number overflow = InvalidPush
+number eaten = InvalidArgs
 
 -- how far behind the first wrong token the cursor stands: "an overflowing push is refused after its literal", "an untyped list's Comma is eaten"
 abbrev pub beyond : Why → ℕ
@@ -30,6 +31,16 @@ pub data Res (A : Type 0) : Type 0 where
   got : A → ℕ → Res A
   -- why, and the first wrong place
   bad : Why → ℕ → Res A
+
+-- the answer to a call: what was read and the tokens it took, or document 01's number and cursor
+pub data Answer (A : Type 0) : Type 0 where
+  read : A → ℕ → Answer A
+  refused : ℕ → ℕ → Answer A
+
+-- number and cursor, read off the reason and the first wrong place
+abbrev pub answer : {A : Type 0} → Res A → Answer A
+answer (got x n) = read x n
+answer (bad y w) = refused (number y) (w + beyond y)
 
 -- what to do at a token: refuse it; be done before it; take it and read on
 pub data Step (A : Type 0) : Type 0 where

@@ -4,8 +4,8 @@ use mathlib.Core.Path.{_≡_, sym, ap, _∙_}
 use mathlib.Core.List.{List}
 use Rattle.statements.specs.Call as bodies
 use Rattle.statements.proofs.Fixed as body
-use Rattle.definitions.specs.Call as files
-use Rattle.definitions.proofs.Fixed as file
+use Rattle.files.specs.Call as files
+use Rattle.files.proofs.Fixed as file
 use Rattle.simmerotter.specs.Answered.{FileAnswered, BodyAnswered}
 
 -- of `simmerotter_read_file`

@@ -4,8 +4,8 @@ use mathlib.Core.Path.{_≡_}
 use mathlib.Core.List.{List}
 use Rattle.statements.specs.declared.entry.Body.{Body}
 use Rattle.statements.specs.Call as body
-use Rattle.definitions.specs.declared.entry.File.{File}
-use Rattle.definitions.specs.Call as file
+use Rattle.files.specs.declared.entry.File.{File}
+use Rattle.files.specs.Call as file
 
 -- a file call's: an answer that `read_file` promises, with all that is lent, and its five numbers
 pub record FileAnswered (text words kept definitions statements arguments answer′ kept′ definitions′ statements′ arguments′ : List ℕ) : Type 0 where

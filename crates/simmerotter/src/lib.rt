@@ -6,7 +6,7 @@ use values::body_values;
 use values::file_values;
 ghost use Rattle.simmerotter.specs.Answered.{FileAnswered, BodyAnswered};
 
-// Reads a whole file: `definitions::read_file`, its answer as number, cursor, definitions, statements, arguments.
+// Reads a whole file: `files::read_file`, its answer as number, cursor, definitions, statements, arguments.
 #[no_mangle]
 pub extern "C" fn simmerotter_read_file(
     text: &[u8],
@@ -20,7 +20,7 @@ pub extern "C" fn simmerotter_read_file(
     ensures { λ _. ⌜ FileAnswered (now (text .entry)) (now (tokens .entry)) (now (kept .entry)) (now (definitions .entry)) (now (statements .entry))
         (now (arguments .entry)) (now (answer .exit)) (now (kept .exit)) (now (definitions .exit)) (now (statements .exit)) (now (arguments .exit)) ⌝ }
 {
-    let read = definitions::read_file(text, tokens, kept, definitions, statements, arguments);
+    let read = files::read_file(text, tokens, kept, definitions, statements, arguments);
     *answer = file_values(read);
 }
 

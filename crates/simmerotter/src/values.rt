@@ -1,16 +1,17 @@
 // The five numbers of an answer, as document 01 gives them.
-use definitions::File;
+use files::File;
 use statements::Body;
+use tokens::number;
 ghost use mathlib.Core.Path.{_≡_};
 ghost use mathlib.Core.List.{[], _∷_};
-ghost use Rattle.definitions.specs.Call as file;
+ghost use Rattle.files.specs.Call as file;
 ghost use Rattle.statements.specs.Call as body;
 
 // A refusal: its counts are 0.
-fn refusal(number: u64, cursor: usize) -> [u64; 5]
+fn refusal(number: u32, cursor: usize) -> [u64; 5]
     ensures { λ r. ⌜ r ≡ number ∷ cursor ∷ 0 ∷ 0 ∷ 0 ∷ [] ⌝ }
 {
-    [number, cursor as u64, 0, 0, 0]
+    [number as u64, cursor as u64, 0, 0, 0]
 }
 
 // Accepted: the cursor and three counts.
@@ -25,12 +26,12 @@ pub fn file_values(answer: File) -> [u64; 5]
     ensures { λ r. ⌜ r ≡ file.values answer ⌝ }
 {
     match answer {
-        File::NotWellFormed(at) => refusal(30, at),
-        File::KeptTooShort(count) => refusal(35, count),
-        File::Refused(number, cursor) => refusal(number as u64, cursor),
-        File::DefinitionsTooSmall(need) => refusal(32, need),
-        File::StatementsTooSmall(need) => refusal(33, need),
-        File::ArgumentsTooSmall(need) => refusal(34, need),
+        File::NotWellFormed(at) => refusal(number::NOT_WELL_FORMED, at),
+        File::KeptTooShort(count) => refusal(number::KEPT_TOO_SHORT, count),
+        File::Refused(number, cursor) => refusal(number, cursor),
+        File::DefinitionsTooSmall(need) => refusal(number::DEFINITIONS_TOO_SMALL, need),
+        File::StatementsTooSmall(need) => refusal(number::STATEMENTS_TOO_SMALL, need),
+        File::ArgumentsTooSmall(need) => refusal(number::ARGUMENTS_TOO_SMALL, need),
         File::Read(cursor, definitions, statements, arguments) => accepted(
             cursor,
             definitions,
@@ -45,12 +46,12 @@ pub fn body_values(answer: Body) -> [u64; 5]
     ensures { λ r. ⌜ r ≡ body.values answer ⌝ }
 {
     match answer {
-        Body::NotWellFormed(at) => refusal(30, at),
-        Body::KeptTooShort(count) => refusal(35, count),
-        Body::StartOutside(at) => refusal(31, at),
-        Body::Refused(number, cursor) => refusal(number as u64, cursor),
-        Body::StatementsTooSmall(need) => refusal(33, need),
-        Body::ArgumentsTooSmall(need) => refusal(34, need),
+        Body::NotWellFormed(at) => refusal(number::NOT_WELL_FORMED, at),
+        Body::KeptTooShort(count) => refusal(number::KEPT_TOO_SHORT, count),
+        Body::StartOutside(at) => refusal(number::START_OUTSIDE, at),
+        Body::Refused(number, cursor) => refusal(number, cursor),
+        Body::StatementsTooSmall(need) => refusal(number::STATEMENTS_TOO_SMALL, need),
+        Body::ArgumentsTooSmall(need) => refusal(number::ARGUMENTS_TOO_SMALL, need),
         Body::Read(cursor, statements, arguments, length) => accepted(
             cursor,
             statements,

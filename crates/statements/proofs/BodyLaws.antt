@@ -9,11 +9,12 @@ use mathlib.Core.List.{List, [], _∷_, _++_, map, map-append, append-nil, appen
 use lib.ListN.{length, drop, length-append, length-map}
 use lib.Dec.{eqb}
 use borrow.Author.Tests.{ne-eqb, eqb-true, eqb-false}
+use Rattle.tokens.specs.Number.{statementWidth}
 use Rattle.tokens.specs.Kind.{Label, CloseBrace, Colon, OpenBrace}
 use Rattle.tokens.specs.Token.{Token, tokenAt, view, kindAt, KindAt}
-use Rattle.tokens.specs.Table.{put, putAll}
-use Rattle.tokens.proofs.ViewLaws.{view-kind, view-length}
-use Rattle.tokens.proofs.TableLaws.{put-late}
+use Rattle.tokens.specs.Lent.{put, putAll}
+use Rattle.tokens.proofs.TokenLaws.{view-kind, view-length}
+use Rattle.tokens.proofs.LentLaws.{put-late}
 use Rattle.grammar.specs.Reading.{Simple, Group, Reading}
 use Rattle.grammar.specs.Rules.{base}
 use Rattle.grammar.specs.Grammar.{Item, LabelGroup, forget, remember}
@@ -24,25 +25,24 @@ use Rattle.grammar.proofs.AtPlace.{look-at, seq-got, seq-bad, many-ends, many-g
 use Rattle.grammar.proofs.Holds.{Holds, well, NoneOrOne, many-on, many-stop}
 use Rattle.grammar.proofs.Sound.{item-holds, item-some, plain-number, group-holds, group-some}
 use Rattle.grammar.proofs.Recorded.{as-many}
-use Rattle.statements.specs.declared.item.Tally.{Tally}
+use Rattle.statements.specs.declared.item.Progress.{Progress}
 use Rattle.statements.specs.declared.item.Items.{Items}
 use Rattle.statements.specs.declared.item.Items.the-variants.{Done, Refused}
-use Rattle.statements.specs.Answers.{Counting, TallyWithin, Parsed, tallied, simpleAnswer, bodyAnswer, simpleArguments, SimpleParsed, BodyParsed, flattened}
+use Rattle.statements.specs.Answers.{Counting, ProgressWithin, Parsed, progressed, simpleAnswer, bodyAnswer, simpleArguments, SimpleParsed, BodyParsed, flattened}
 use Rattle.statements.specs.Item.{Small}
 use Rattle.statements.specs.Label.{skipped, labelWords, labelOpened}
-use Rattle.statements.proofs.At.{many-bad, test-no, kind-here, kind-inside, expect-taken, expect-refused}
+use Rattle.lists.proofs.At.{many-bad, test-no, kind-here, kind-inside, expect-taken, expect-refused}
 use Rattle.statements.proofs.ItemLaws.{view-inside}
-use Rattle.statements.proofs.StatementLaws.{tally-same}
+use Rattle.statements.proofs.StatementLaws.{progress-same}
 use Rattle.statements.proofs.Pieces.{Piece, no-piece, piece-then, piece-parsed, parsed-piece, refused-parsed}
 
 -- ---- the walk of a loop
 
 -- the counts behind what was read
-pub counting-next : {words kept : List ℕ} {s t : Tally} {i a : ℕ} → Counting words kept s i a → TallyWithin s (length kept) (Done t) → Counting words kept t i a
+pub counting-next : {words kept : List ℕ} {s t : Progress} {i a : ℕ} → Counting words kept s i a → ProgressWithin s (length kept) (Done t) → Counting words kept t i a
 counting-next g h =
     record {
-      numbered = g .numbered;
-      few = g .few;
+      list = g .list;
       inside = h .1;
       statements = omega (arith, g .statements, h .2);
       arguments = omega (arith, g .arguments, h .3);
@@ -51,11 +51,10 @@ counting-next g h =
     }
 
 -- and behind tokens that are passed over
-pub counting-skip : {words kept : List ℕ} {s : Tally} {i a : ℕ} (n m : ℕ) → Counting words kept s i a → s .at + n ≤ length kept → m ≤ n → Counting words kept (skipped s n m) i a
+pub counting-skip : {words kept : List ℕ} {s : Progress} {i a : ℕ} (n m : ℕ) → Counting words kept s i a → s .at + n ≤ length kept → m ≤ n → Counting words kept (skipped s n m) i a
 counting-skip n m g h hm =
     record {
-      numbered = g .numbered;
-      few = g .few;
+      list = g .list;
       inside = h;
       statements = omega (arith, g .statements);
       arguments = omega (arith, g .arguments);
@@ -64,23 +63,23 @@ counting-skip n m g h hm =
     }
 
 -- the loop at t, with the tables as they are: whatever is promised of the rest from there is promised from the start
-pub record Walk (Left : Tally → List ℕ → List ℕ → Items → List ℕ → List ℕ → Type 0) (words kept : List ℕ) (i a : ℕ) (t₀ : Tally) (st₀ ar₀ : List ℕ) (t : Tally) (st ar : List ℕ) : Type 0 where
+pub record Walk (Left : Progress → List ℕ → List ℕ → Items → List ℕ → List ℕ → Type 0) (words kept : List ℕ) (i a : ℕ) (t₀ : Progress) (st₀ ar₀ : List ℕ) (t : Progress) (st ar : List ℕ) : Type 0 where
   pub counting : Counting words kept t i a
   pub sameStatements : length st ≡ length st₀
   pub sameArguments : length ar ≡ length ar₀
   pub onward : (r : Items) (st′ ar′ : List ℕ) → Left t st ar r st′ ar′ → Left t₀ st₀ ar₀ r st′ ar′
 
 -- a turn from t to the next place: it goes forward, and what is promised of the rest behind it is promised from t
-pub record Turn (Left : Tally → List ℕ → List ℕ → Items → List ℕ → List ℕ → Type 0) (t next : Tally) (st ar st₁ ar₁ : List ℕ) : Type 0 where
+pub record Turn (Left : Progress → List ℕ → List ℕ → Items → List ℕ → List ℕ → Type 0) (t next : Progress) (st ar st₁ ar₁ : List ℕ) : Type 0 where
   pub forward : t .at < next .at
   pub step : (r : Items) (st′ ar′ : List ℕ) → Left next st₁ ar₁ r st′ ar′ → Left t st ar r st′ ar′
 
-pub walk-start : {Left : Tally → List ℕ → List ℕ → Items → List ℕ → List ℕ → Type 0} {words kept : List ℕ} {i a : ℕ} {t : Tally} {st ar : List ℕ} → Counting words kept t i a → Walk Left words kept i a t st ar t st ar
+pub walk-start : {Left : Progress → List ℕ → List ℕ → Items → List ℕ → List ℕ → Type 0} {words kept : List ℕ} {i a : ℕ} {t : Progress} {st ar : List ℕ} → Counting words kept t i a → Walk Left words kept i a t st ar t st ar
 walk-start h = record { counting = h; sameStatements = refl; sameArguments = refl; onward = λ r st ar v. v }
 
-pub walk-step : {Left : Tally → List ℕ → List ℕ → Items → List ℕ → List ℕ → Type 0} {words kept : List ℕ} {i a : ℕ} {t₀ t next : Tally} {st₀ ar₀ st ar st₁ ar₁ : List ℕ}
+pub walk-step : {Left : Progress → List ℕ → List ℕ → Items → List ℕ → List ℕ → Type 0} {words kept : List ℕ} {i a : ℕ} {t₀ t next : Progress} {st₀ ar₀ st ar st₁ ar₁ : List ℕ}
     → Walk Left words kept i a t₀ st₀ ar₀ t st ar
-    → TallyWithin t (length kept) (Done next)
+    → ProgressWithin t (length kept) (Done next)
     → length st₁ ≡ length st
     → length ar₁ ≡ length ar
     → Turn Left t next st ar st₁ ar₁
@@ -162,14 +161,14 @@ module _ (text words kept : List ℕ) (p : ℕ) where
 -- ---- items
 
 -- items are left to read at s
-abbrev pub ItemsLeft : Bool → ℕ → ℕ → ℕ → ℕ → List Token → Tally → List ℕ → List ℕ → Items → List ℕ → List ℕ → Type 0
+abbrev pub ItemsLeft : Bool → ℕ → ℕ → ℕ → ℕ → List Token → Progress → List ℕ → List ℕ → Items → List ℕ → List ℕ → Type 0
 ItemsLeft takes wrong i a size all s = SimpleParsed s i a size (flattened (items takes wrong (s .at) (drop (s .at) all)))
 
 module _ (takes : Bool) (wrong i a size : ℕ) (all : List Token) where
   -- a unit and what is left behind it
-  unit-then : {s : Tally} {st ar st₁ ar₁ st₂ ar₂ : List ℕ} {r₁ r : Items} (u : List Simple) (k : ℕ) (rest : Res (List (List Simple)))
+  unit-then : {s : Progress} {st ar st₁ ar₁ st₂ ar₂ : List ℕ} {r₁ r : Items} (u : List Simple) (k : ℕ) (rest : Res (List (List Simple)))
       → SimpleParsed s i a size (got u k) st ar r₁ st₁ ar₁
-      → SimpleParsed (tallied s k (length u) (length (argumentsOf u))) i a size (flattened rest) st₁ ar₁ r st₂ ar₂
+      → SimpleParsed (progressed s k (length u) (length (argumentsOf u))) i a size (flattened rest) st₁ ar₁ r st₂ ar₂
       → SimpleParsed s i a size (flattened (counted k (consed u rest))) st ar r st₂ ar₂
   unfolding flatten
   unit-then {s} u k (bad y w) v left = rw (left .is) (refused-parsed simpleAnswer simpleRecords simpleArguments i a y w refl refl refl refl)
@@ -184,7 +183,7 @@ module _ (takes : Bool) (wrong i a size : ℕ) (all : List Token) where
       (ap (map argumentRecord) (arguments-append u (flatten us)) ∙ map-append argumentRecord (argumentsOf u) (argumentsOf (flatten us))))
 
   -- what an item's promise says of the turn
-  pub items-turn : {t next : Tally} {st ar st₁ ar₁ : List ℕ} → length all ≡ size → endsItems (tokenAt all (t .at)) ≡ false
+  pub items-turn : {t next : Progress} {st ar st₁ ar₁ : List ℕ} → length all ≡ size → endsItems (tokenAt all (t .at)) ≡ false
       → SimpleParsed t i a size (item takes wrong (t .at) (drop (t .at) all)) st ar (Done next) st₁ ar₁
       → Turn (ItemsLeft takes wrong i a size all) t next st ar st₁ ar₁
   unfolding items
@@ -196,7 +195,7 @@ module _ (takes : Bool) (wrong i a size : ℕ) (all : List Token) where
       go (got u (suc n)) e =
           let v′ : SimpleParsed t i a size (got u (suc n)) st ar (Done next) st₁ ar₁ = rw e at v in
           let first = parsed-piece simpleAnswer simpleRecords simpleArguments i a v′ refl in
-          let is : next ≡ tallied t (suc n) (length u) (length (argumentsOf u)) = cc (first .0) in
+          let is : next ≡ progressed t (suc n) (length u) (length (argumentsOf u)) = cc (first .0) in
           let whole = many-goes endsItems forget (λ s. item takes wrong) tt (t .at) all u n (omega (arith, first .1 .inside)) stop e in
           record {
             forward = rw is (omega arith);
@@ -204,7 +203,7 @@ module _ (takes : Bool) (wrong i a size : ℕ) (all : List Token) where
           }
 
   -- the loop ends
-  pub items-end : {t : Tally} {st ar : List ℕ} → length all ≡ size → t .at < size → endsItems (tokenAt all (t .at)) ≡ true
+  pub items-end : {t : Progress} {st ar : List ℕ} → length all ≡ size → t .at < size → endsItems (tokenAt all (t .at)) ≡ true
       → SimpleParsed t i a size (flattened (items takes wrong (t .at) (drop (t .at) all))) st ar (Done t) st ar
   unfolding items flatten simpleRecords argumentsOf
   items-end {t} {st} {ar} len h stop =
@@ -213,7 +212,7 @@ module _ (takes : Bool) (wrong i a size : ℕ) (all : List Token) where
       refl refl refl
 
   -- an item is refused
-  pub items-refused : {t : Tally} {c q : ℕ} {st ar st₁ ar₁ : List ℕ} → length all ≡ size → endsItems (tokenAt all (t .at)) ≡ false
+  pub items-refused : {t : Progress} {c q : ℕ} {st ar st₁ ar₁ : List ℕ} → length all ≡ size → endsItems (tokenAt all (t .at)) ≡ false
       → SimpleParsed t i a size (item takes wrong (t .at) (drop (t .at) all)) st ar (Refused c q) st₁ ar₁
       → SimpleParsed t i a size (flattened (items takes wrong (t .at) (drop (t .at) all))) st ar (Refused c q) st₁ ar₁
   unfolding items
@@ -229,14 +228,14 @@ module _ (takes : Bool) (wrong i a size : ℕ) (all : List Token) where
 -- ---- a label
 
 -- label groups, promised as statements are: the answer, the records, and both
-abbrev pub groupsAnswer : Tally → Res (List Group) → Items
-groupsAnswer s (got gs k) = Done (tallied s k (groupCount gs) (length (groupArguments gs)))
+abbrev pub groupsAnswer : Progress → Res (List Group) → Items
+groupsAnswer s (got gs k) = Done (progressed s k (groupCount gs) (length (groupArguments gs)))
 groupsAnswer s (bad y w) = Refused (number y) (w + beyond y)
 
 abbrev pub groupsArguments : List Group → List (List ℕ)
 groupsArguments gs = map argumentRecord (groupArguments gs)
 
-abbrev pub GroupsParsed : Tally → ℕ → ℕ → ℕ → Res (List Group) → List ℕ → List ℕ → Items → List ℕ → List ℕ → Type 0
+abbrev pub GroupsParsed : Progress → ℕ → ℕ → ℕ → Res (List Group) → List ℕ → List ℕ → Items → List ℕ → List ℕ → Type 0
 GroupsParsed = Parsed groupsAnswer groupRecords groupsArguments
 
 -- one group as a list
@@ -244,7 +243,7 @@ abbrev oneGroup : Res Group → Res (List Group)
 oneGroup (got g k) = got (g ∷ []) k
 oneGroup (bad y w) = bad y w
 
-module _ (i a size : ℕ) (all : List Token) (s : Tally) where
+module _ (i a size : ℕ) (all : List Token) (s : Progress) where
   label-step : tokenAt all (s .at) .kind ≡ Label → labelGroup base [] (s .at) (drop (s .at) all) ≡ oneMore (groupRest base (s .at) (tokenAt all (s .at)) (s .at + 1) (drop (s .at + 1) all))
   unfolding labelGroup choose
   label-step e =
@@ -281,26 +280,26 @@ module _ (i a size : ℕ) (all : List Token) (s : Tally) where
       ∙ ap oneMore (expect-taken Colon (plain 1) (λ c. seq (items false 6) (λ is q ts. got (record { first = s .at; end = q; token = tokenAt all (s .at); inner = flatten is }) 0)) (s .at + 1) all f)
       ∙ rw (two, g)
 
-  label-piece : {n l m : ℕ} {rs qs : List (List ℕ)} {st ar st₁ ar₁ st₂ : List ℕ} {t : Tally}
+  label-piece : {n l m : ℕ} {rs qs : List (List ℕ)} {st ar st₁ ar₁ st₂ : List ℕ} {t : Progress}
       → Piece (skipped s 2 1) size n l m rs qs st ar t st₁ ar₁
-      → st₂ ≡ put 8 st₁ (s .statements) (labelWords s i a t)
+      → st₂ ≡ put statementWidth st₁ (s .statements) (labelWords s i a t)
       → Piece s size (2 + n) (suc l) m (labelWords s i a t ∷ rs) qs st ar t st₂ ar₁
   unfolding putAll
   label-piece {n} {l} {m} {rs} {qs} {st} {ar} {st₁} {ar₁} {st₂} {t} v w =
       record {
-        is = v .is ∙ tally-same (omega arith) (omega arith) refl;
-        statements = w ∙ ap (λ (x : List ℕ). put 8 x (s .statements) (labelWords s i a t)) (v .statements) ∙ put-late 8 rs st (labelWords s i a t) (s .statements) (s .statements + 1) (omega arith) (omega arith);
+        is = v .is ∙ progress-same (omega arith) (omega arith) refl;
+        statements = w ∙ ap (λ (x : List ℕ). put statementWidth x (s .statements) (labelWords s i a t)) (v .statements) ∙ put-late 8 rs st (labelWords s i a t) (s .statements) (s .statements + 1) (omega arith) (omega arith);
         arguments = v .arguments;
         inside = omega (arith, v .inside);
         fewStatements = omega (arith, v .fewStatements);
         fewArguments = omega (arith, v .fewArguments);
       }
 
-  label-parsed : {st ar st₁ ar₁ st₂ : List ℕ} {t : Tally}
+  label-parsed : {st ar st₁ ar₁ st₂ : List ℕ} {t : Progress}
       → tokenAt all (s .at) .kind ≡ Label
       → tokenAt all (s .at + 1) .kind ≡ Colon
       → ItemsLeft false 6 i a size all (skipped s 2 1) st ar (Done t) st₁ ar₁
-      → st₂ ≡ put 8 st₁ (s .statements) (labelWords s i a t)
+      → st₂ ≡ put statementWidth st₁ (s .statements) (labelWords s i a t)
       → GroupsParsed s i a size (oneGroup (labelGroup base [] (s .at) (drop (s .at) all))) st ar (Done t) st₂ ar₁
   unfolding groupRecords groupCount groupArguments
   label-parsed {st} {ar} {st₁} {ar₁} {st₂} {t} e f v w = go (items false 6 (s .at + 2) (drop (s .at + 2) all)) refl
@@ -311,7 +310,7 @@ module _ (i a size : ℕ) (all : List Token) (s : Tally) where
       go (got is n) g =
           let v′ : SimpleParsed (skipped s 2 1) i a size (got (flatten is) n) st ar (Done t) st₁ ar₁ = rw g at v in
           let first = parsed-piece simpleAnswer simpleRecords simpleArguments i a v′ refl in
-          let here : t ≡ tallied (skipped s 2 1) n (length (flatten is)) (length (argumentsOf (flatten is))) = cc (first .0) in
+          let here : t ≡ progressed (skipped s 2 1) n (length (flatten is)) (length (argumentsOf (flatten is))) = cc (first .0) in
           let own : i + (s .statements + 1) ≡ suc (i + s .statements) = omega arith in
           let count : s .statements + 1 + length (flatten is) - (s .statements + 1) ≡ length (flatten is) = omega arith in
           let none : n + 0 ≡ n = add-zero n in
@@ -319,7 +318,7 @@ module _ (i a size : ℕ) (all : List Token) (s : Tally) where
           rw here
           (piece-parsed groupsAnswer groupRecords groupsArguments i a (theGroup n is ∷ []) (label-piece (first .1) (rw here at w))
           (ap oneGroup (label-read (got is n) e f g) ∙ rw (none, two))
-          (ap Done (tally-same refl (ap (λ k. s .statements + k) (add-zero (suc (length (flatten is))))) (ap (λ k. s .arguments + length k) (append-nil (argumentsOf (flatten is))))))
+          (ap Done (progress-same refl (ap (λ k. s .statements + k) (add-zero (suc (length (flatten is))))) (ap (λ k. s .arguments + length k) (append-nil (argumentsOf (flatten is))))))
           (rw (append-nil, own, count, add-one))
           (ap (map argumentRecord) (append-nil (argumentsOf (flatten is)))))
 
@@ -339,7 +338,7 @@ module _ (i a size : ℕ) (all : List Token) (s : Tally) where
           refused-parsed groupsAnswer groupRecords groupsArguments i a y w (ap oneGroup (label-read (bad y w) e f g)) refl (cc) (cc)
 
   -- what the label's writer needs of the items
-  label-inside : {words kept st ar st₁ ar₁ : List ℕ} {t : Tally} → Counting words kept s i a → length kept ≡ size → ItemsLeft false 6 i a size all (skipped s 2 1) st ar (Done t) st₁ ar₁
+  label-inside : {words kept st ar st₁ ar₁ : List ℕ} {t : Progress} → Counting words kept s i a → length kept ≡ size → ItemsLeft false 6 i a size all (skipped s 2 1) st ar (Done t) st₁ ar₁
       → (s .statements + 1 ≤ t .statements) × (t .statements ≤ 65536) × (t .at ≤ 65536)
   label-inside {words} {kept} {st} {ar} {st₁} {ar₁} {t} g len v = go (items false 6 (s .at + 2) (drop (s .at + 2) all)) refl
     where
@@ -348,8 +347,8 @@ module _ (i a size : ℕ) (all : List Token) (s : Tally) where
       go (got us n) e =
           let v′ : SimpleParsed (skipped s 2 1) i a size (got (flatten us) n) st ar (Done t) st₁ ar₁ = rw e at v in
           let first = parsed-piece simpleAnswer simpleRecords simpleArguments i a v′ refl in
-          let here : t ≡ tallied (skipped s 2 1) n (length (flatten us)) (length (argumentsOf (flatten us))) = cc (first .0) in
-          rw here (omega arith, omega (arith, first .1 .inside, first .1 .fewStatements, g .few, g .statements), omega (arith, first .1 .inside, g .few))
+          let here : t ≡ progressed (skipped s 2 1) n (length (flatten us)) (length (argumentsOf (flatten us))) = cc (first .0) in
+          rw here (omega arith, omega (arith, first .1 .inside, first .1 .fewStatements, g .list .few, g .statements), omega (arith, first .1 .inside, g .list .few))
 
 -- ---- labels one behind the other
 
@@ -386,13 +385,13 @@ unfolding statementRecords statementCount simpleRecords argumentsOf
 groups-count gs i a = rw (add-zero i, add-zero a, zero-add) at (as-many i a (record { main = []; groups = gs }) .0)
 
 -- labels are left to read at s
-abbrev pub GroupsLeft : ℕ → ℕ → ℕ → List Token → Tally → List ℕ → List ℕ → Items → List ℕ → List ℕ → Type 0
+abbrev pub GroupsLeft : ℕ → ℕ → ℕ → List Token → Progress → List ℕ → List ℕ → Items → List ℕ → List ℕ → Type 0
 GroupsLeft i a size all s = GroupsParsed s i a size (groups base (s .at) (drop (s .at) all))
 
 module _ (i a size : ℕ) (all : List Token) where
-  label-then : {s : Tally} {st ar st₁ ar₁ st₂ ar₂ : List ℕ} {r₁ r : Items} (g : Group) (k : ℕ) (rest : Res (List Group))
+  label-then : {s : Progress} {st ar st₁ ar₁ st₂ ar₂ : List ℕ} {r₁ r : Items} (g : Group) (k : ℕ) (rest : Res (List Group))
       → GroupsParsed s i a size (got (g ∷ []) k) st ar r₁ st₁ ar₁
-      → GroupsParsed (tallied s k (groupCount (g ∷ [])) (length (groupArguments (g ∷ [])))) i a size rest st₁ ar₁ r st₂ ar₂
+      → GroupsParsed (progressed s k (groupCount (g ∷ [])) (length (groupArguments (g ∷ [])))) i a size rest st₁ ar₁ r st₂ ar₂
       → GroupsParsed s i a size (counted k (consed g rest)) st ar r st₂ ar₂
   unfolding groupRecords groupCount groupArguments
   label-then {s} g k (bad y w) v left = rw (left .is) (refused-parsed groupsAnswer groupRecords groupsArguments i a y w refl refl refl refl)
@@ -410,7 +409,7 @@ module _ (i a size : ℕ) (all : List Token) where
       (rw (args, map-append)))
 
   -- what a label's promise says of the turn
-  groups-turn : {t next : Tally} {st ar st₁ ar₁ : List ℕ} → length all ≡ size → endsGroups (tokenAt all (t .at)) ≡ false
+  groups-turn : {t next : Progress} {st ar st₁ ar₁ : List ℕ} → length all ≡ size → endsGroups (tokenAt all (t .at)) ≡ false
       → GroupsParsed t i a size (oneGroup (labelGroup base [] (t .at) (drop (t .at) all))) st ar (Done next) st₁ ar₁
       → Turn (GroupsLeft i a size all) t next st ar st₁ ar₁
   unfolding groups
@@ -422,7 +421,7 @@ module _ (i a size : ℕ) (all : List Token) where
       go (got g (suc n)) e =
           let v′ : GroupsParsed t i a size (got (g ∷ []) (suc n)) st ar (Done next) st₁ ar₁ = rw e at v in
           let first = parsed-piece groupsAnswer groupRecords groupsArguments i a v′ refl in
-          let is : next ≡ tallied t (suc n) (groupCount (g ∷ [])) (length (groupArguments (g ∷ []))) = cc (first .0) in
+          let is : next ≡ progressed t (suc n) (groupCount (g ∷ [])) (length (groupArguments (g ∷ []))) = cc (first .0) in
           let whole = many-goes endsGroups remember (labelGroup base) [] (t .at) all g n (omega (arith, first .1 .inside)) stop e in
           let aside = names-aside (drop (t .at + suc n) all) (remember [] g) [] 0 (t .at + suc n) in
           record {
@@ -430,14 +429,14 @@ module _ (i a size : ℕ) (all : List Token) where
             step = λ r st′ ar′ left. rw (whole, aside) (label-then g (suc n) (many endsGroups remember (labelGroup base) [] 0 (t .at + suc n) (drop (t .at + suc n) all)) v′ (rw is at left));
           }
 
-  groups-end : {t : Tally} {st ar : List ℕ} → length all ≡ size → t .at < size → endsGroups (tokenAt all (t .at)) ≡ true → GroupsLeft i a size all t st ar (Done t) st ar
+  groups-end : {t : Progress} {st ar : List ℕ} → length all ≡ size → t .at < size → endsGroups (tokenAt all (t .at)) ≡ true → GroupsLeft i a size all t st ar (Done t) st ar
   unfolding groups groupRecords groupCount groupArguments
   groups-end {t} {st} {ar} len h stop =
       piece-parsed groupsAnswer groupRecords groupsArguments i a [] (no-piece t size st ar (omega arith))
       (many-ends endsGroups remember (labelGroup base) [] (t .at) all (omega arith) stop)
       refl refl refl
 
-  groups-refused : {t : Tally} {c q : ℕ} {st ar st₁ ar₁ : List ℕ} → length all ≡ size → endsGroups (tokenAt all (t .at)) ≡ false
+  groups-refused : {t : Progress} {c q : ℕ} {st ar st₁ ar₁ : List ℕ} → length all ≡ size → endsGroups (tokenAt all (t .at)) ≡ false
       → GroupsParsed t i a size (oneGroup (labelGroup base [] (t .at) (drop (t .at) all))) st ar (Refused c q) st₁ ar₁
       → GroupsLeft i a size all t st ar (Refused c q) st₁ ar₁
   unfolding groups
@@ -453,14 +452,14 @@ module _ (i a size : ℕ) (all : List Token) where
 -- ---- the body
 
 -- what was read between two braces, with them
-braced : {s t : Tally} {size k n m : ℕ} {rs qs : List (List ℕ)} {st ar st′ ar′ : List ℕ}
+braced : {s t : Progress} {size k n m : ℕ} {rs qs : List (List ℕ)} {st ar st′ ar′ : List ℕ}
     → Piece (skipped s 1 0) size k n m rs qs st ar t st′ ar′
     → t .at < size
     → Piece s size (suc (k + 1)) n m rs qs st ar (skipped t 1 0) st′ ar′
 braced {s} {t} {st = st} v h =
-    let at : t .at ≡ s .at + 1 + _ = ap (λ (x : Tally). x .at) (v .is) in
+    let at : t .at ≡ s .at + 1 + _ = ap (λ (x : Progress). x .at) (v .is) in
     record {
-      is = ap (λ (x : Tally). skipped x 1 0) (v .is) ∙ tally-same (omega arith) (omega arith) refl;
+      is = ap (λ (x : Progress). skipped x 1 0) (v .is) ∙ progress-same (omega arith) (omega arith) refl;
       statements = v .statements ∙ rw (add-zero (s .statements));
       arguments = v .arguments;
       inside = omega (arith, h);
@@ -473,7 +472,7 @@ abbrev pub shut : List Token → Items → Items
 shut all (Done t) = cond (eqb (tokenAt all (t .at) .kind) CloseBrace) (Done (skipped t 1 0)) (Refused 5 (t .at))
 shut all (Refused c q) = Refused c q
 
-module _ (i a size : ℕ) (all : List Token) (s : Tally) where
+module _ (i a size : ℕ) (all : List Token) (s : Progress) where
   abbrev rest : List (List Simple) → ℕ → List Token → Res Reading
   rest is = seq (groups base) (λ gs. expect CloseBrace (plain 5) (λ c q ts. got (record { main = flatten is; groups = gs }) 0))
 
@@ -500,7 +499,7 @@ module _ (i a size : ℕ) (all : List Token) (s : Tally) where
           refused-parsed bodyAnswer statementRecords argumentRecords i a y w (opened e ∙ ap oneMore (seq-bad (items true 5) rest (s .at + 1) (drop (s .at + 1) all) y w f)) refl (cc) (cc)
 
   -- the macro part, the labels and the closing brace
-  finished : {st ar st₁ ar₁ st₂ ar₂ : List ℕ} {t : Tally} {r : Items} (us : List (List Simple)) (n : ℕ)
+  finished : {st ar st₁ ar₁ st₂ ar₂ : List ℕ} {t : Progress} {r : Items} (us : List (List Simple)) (n : ℕ)
       → ((q : ℕ) → 0 < tokenAt all q .kind → q < size)
       → tokenAt all (s .at) .kind ≡ OpenBrace
       → items true 5 (s .at + 1) (drop (s .at + 1) all) ≡ got us n
@@ -510,10 +509,10 @@ module _ (i a size : ℕ) (all : List Token) (s : Tally) where
   unfolding statementRecords argumentRecords statementCount argumentCount allArguments
   finished {st} {ar} {st₁} {ar₁} {st₂} {ar₂} {t} {r} us n inside e f v w = go (groups base (t .at) (drop (t .at) all)) refl
     where
-      first : (Done t ≡ Done (tallied (skipped s 1 0) n (length (flatten us)) (length (argumentsOf (flatten us))))) × Piece (skipped s 1 0) size n (length (flatten us)) (length (argumentsOf (flatten us))) (simpleRecords (i + (s .statements + 0)) (a + s .arguments) (flatten us)) (simpleArguments (flatten us)) st ar (tallied (skipped s 1 0) n (length (flatten us)) (length (argumentsOf (flatten us)))) st₁ ar₁
+      first : (Done t ≡ Done (progressed (skipped s 1 0) n (length (flatten us)) (length (argumentsOf (flatten us))))) × Piece (skipped s 1 0) size n (length (flatten us)) (length (argumentsOf (flatten us))) (simpleRecords (i + (s .statements + 0)) (a + s .arguments) (flatten us)) (simpleArguments (flatten us)) st ar (progressed (skipped s 1 0) n (length (flatten us)) (length (argumentsOf (flatten us)))) st₁ ar₁
       first = parsed-piece simpleAnswer simpleRecords simpleArguments i a v refl
 
-      is : t ≡ tallied (skipped s 1 0) n (length (flatten us)) (length (argumentsOf (flatten us)))
+      is : t ≡ progressed (skipped s 1 0) n (length (flatten us)) (length (argumentsOf (flatten us)))
       is = cc (first .0)
 
       main-piece : Piece (skipped s 1 0) size n (length (flatten us)) (length (argumentsOf (flatten us))) (simpleRecords (i + (s .statements + 0)) (a + s .arguments) (flatten us)) (simpleArguments (flatten us)) st ar t st₁ ar₁
@@ -528,7 +527,7 @@ module _ (i a size : ℕ) (all : List Token) (s : Tally) where
           }
 
       at : t .at ≡ s .at + 1 + n
-      at = ap (λ (x : Tally). x .at) is
+      at = ap (λ (x : Progress). x .at) is
 
       behind : bodyFrom base (s .at) (drop (s .at) all) ≡ oneMore (counted n (rest us (t .at) (drop (t .at) all)))
       behind = opened e ∙ ap oneMore (seq-got (items true 5) rest (s .at + 1) n all us f ∙ ap (λ (p : ℕ). counted n (rest us p (drop p all))) (sym at))
@@ -542,8 +541,8 @@ module _ (i a size : ℕ) (all : List Token) (s : Tally) where
           let second = parsed-piece groupsAnswer groupRecords groupsArguments i a w′ refl in
           rw (second .0) (brace (eqb (tokenAt all (t .at + k) .kind) CloseBrace) refl (second .1))
         where
-          u : Tally
-          u = tallied t k (groupCount gs) (length (groupArguments gs))
+          u : Progress
+          u = progressed t k (groupCount gs) (length (groupArguments gs))
 
           read-to : bodyFrom base (s .at) (drop (s .at) all) ≡ oneMore (counted n (counted k (expect CloseBrace (plain 5) (λ c q ts. got (record { main = flatten us; groups = gs }) 0) (t .at + k) (drop (t .at + k) all))))
           read-to = behind ∙ ap (λ x. oneMore (counted n x)) (seq-got (groups base) (λ gs. expect CloseBrace (plain 5) (λ c q ts. got (record { main = flatten us; groups = gs }) 0)) (t .at) k all gs g)
@@ -563,10 +562,10 @@ module _ (i a size : ℕ) (all : List Token) (s : Tally) where
               piece-parsed bodyAnswer statementRecords argumentRecords i a (record { main = flatten us; groups = gs }) whole
               (read-to ∙ ap (λ x. oneMore (counted n (counted k x))) (expect-taken CloseBrace (plain 5) (λ c q ts. got (record { main = flatten us; groups = gs }) 0) (t .at + k) all there) ∙ ap (got (record { main = flatten us; groups = gs })) long)
               (rw length-append)
-              (rw (ap (λ (x : Tally). x .statements) is, ap (λ (x : Tally). x .arguments) is, add-zero (s .statements), add-assoc i (s .statements) (length (flatten us)), add-assoc a (s .arguments) (length (argumentsOf (flatten us)))))
+              (rw (ap (λ (x : Progress). x .statements) is, ap (λ (x : Progress). x .arguments) is, add-zero (s .statements), add-assoc i (s .statements) (length (flatten us)), add-assoc a (s .arguments) (length (argumentsOf (flatten us)))))
               (map-append argumentRecord (argumentsOf (flatten us)) (groupArguments gs))
 
-  body-parsed : {st ar st₁ ar₁ st₂ ar₂ : List ℕ} {t : Tally} {r : Items}
+  body-parsed : {st ar st₁ ar₁ st₂ ar₂ : List ℕ} {t : Progress} {r : Items}
       → ((q : ℕ) → 0 < tokenAt all q .kind → q < size)
       → tokenAt all (s .at) .kind ≡ OpenBrace
       → ItemsLeft true 5 i a size all (skipped s 1 0) st ar (Done t) st₁ ar₁
@@ -581,19 +580,19 @@ module _ (i a size : ℕ) (all : List Token) (s : Tally) where
 -- ---- the body's loop
 
 -- the body from its brace at s on
-abbrev pub BodyLeft : ℕ → ℕ → ℕ → List Token → Tally → List ℕ → List ℕ → Items → List ℕ → List ℕ → Type 0
+abbrev pub BodyLeft : ℕ → ℕ → ℕ → List Token → Progress → List ℕ → List ℕ → Items → List ℕ → List ℕ → Type 0
 BodyLeft i a size all s = BodyParsed s i a size (bodyFrom base (s .at) (drop (s .at) all))
 
 -- the same of the body whose first item stands at t₀
-abbrev pub Promised : ℕ → ℕ → ℕ → List Token → Tally → List ℕ → List ℕ → Items → List ℕ → List ℕ → Type 0
-Promised i a size all t₀ st₀ ar₀ r st′ ar′ = (s : Tally) → t₀ ≡ skipped s 1 0 → tokenAt all (s .at) .kind ≡ OpenBrace → BodyLeft i a size all s st₀ ar₀ r st′ ar′
+abbrev pub Promised : ℕ → ℕ → ℕ → List Token → Progress → List ℕ → List ℕ → Items → List ℕ → List ℕ → Type 0
+Promised i a size all t₀ st₀ ar₀ r st′ ar′ = (s : Progress) → t₀ ≡ skipped s 1 0 → tokenAt all (s .at) .kind ≡ OpenBrace → BodyLeft i a size all s st₀ ar₀ r st′ ar′
 
 -- labels from t on: whatever is promised of them is promised of the body, with the brace behind them
-abbrev pub Onward : ℕ → ℕ → ℕ → List Token → Tally → List ℕ → List ℕ → Tally → List ℕ → List ℕ → Type 0
+abbrev pub Onward : ℕ → ℕ → ℕ → List Token → Progress → List ℕ → List ℕ → Progress → List ℕ → List ℕ → Type 0
 Onward i a size all t₀ st₀ ar₀ t st ar = (r : Items) (st′ ar′ : List ℕ) → GroupsLeft i a size all t st ar r st′ ar′ → Promised i a size all t₀ st₀ ar₀ (shut all r) st′ ar′
 
 -- the items of a label are read, whose own record is not yet written
-pub record InLabel (text words kept : List ℕ) (i a : ℕ) (t₀ : Tally) (st₀ ar₀ : List ℕ) (wrong : ℕ) (t label : Tally) (st ar : List ℕ) : Type 0 where
+pub record InLabel (text words kept : List ℕ) (i a : ℕ) (t₀ : Progress) (st₀ ar₀ : List ℕ) (wrong : ℕ) (t label : Progress) (st ar : List ℕ) : Type 0 where
   pub six : wrong ≡ 6
   pub here : t ≡ skipped label 2 1
   pub sign : tokenAt (view text words kept) (label .at) .kind ≡ Label
@@ -602,24 +601,24 @@ pub record InLabel (text words kept : List ℕ) (i a : ℕ) (t₀ : Tally) (st�
   pub onward : Onward i a (length kept) (view text words kept) t₀ st₀ ar₀ label st ar
 
 -- the macro part's items, or a label's, by whether a push takes a literal
-abbrev pub Part : List ℕ → List ℕ → List ℕ → ℕ → ℕ → Tally → List ℕ → List ℕ → Bool → ℕ → Tally → Tally → List ℕ → List ℕ → Type 0
+abbrev pub Part : List ℕ → List ℕ → List ℕ → ℕ → ℕ → Progress → List ℕ → List ℕ → Bool → ℕ → Progress → Progress → List ℕ → List ℕ → Type 0
 Part text words kept i a t₀ st₀ ar₀ true wrong t label st ar = (wrong ≡ 5) × (t ≡ t₀) × (st ≡ st₀) × (ar ≡ ar₀)
 Part text words kept i a t₀ st₀ ar₀ false wrong t label st ar = InLabel text words kept i a t₀ st₀ ar₀ wrong t label st ar
 
-pub record BodyWalk (text words kept : List ℕ) (i a : ℕ) (t₀ : Tally) (st₀ ar₀ : List ℕ) (takes : Bool) (wrong : ℕ) (t label : Tally) (st ar : List ℕ) : Type 0 where
+pub record BodyWalk (text words kept : List ℕ) (i a : ℕ) (t₀ : Progress) (st₀ ar₀ : List ℕ) (takes : Bool) (wrong : ℕ) (t label : Progress) (st ar : List ℕ) : Type 0 where
   pub counting : Counting words kept t i a
   pub sameStatements : length st ≡ length st₀
   pub sameArguments : length ar ≡ length ar₀
   pub part : Part text words kept i a t₀ st₀ ar₀ takes wrong t label st ar
 
 -- a label that the code finds opened
-pub record Opened (text words kept : List ℕ) (next inside : Tally) : Type 0 where
+pub record Opened (text words kept : List ℕ) (next inside : Progress) : Type 0 where
   pub here : inside ≡ skipped next 2 1
   pub sign : tokenAt (view text words kept) (next .at) .kind ≡ Label
   pub colon : tokenAt (view text words kept) (next .at + 1) .kind ≡ Colon
   pub further : next .at + 2 ≤ length kept
 
-pub opened-label : (text words kept : List ℕ) {next inside : Tally} → Done inside ≡ labelOpened words kept next → Opened text words kept next inside
+pub opened-label : (text words kept : List ℕ) {next inside : Progress} → Done inside ≡ labelOpened words kept next → Opened text words kept next inside
 opened-label text words kept {next} {inside} e = go (eqb (kindAt words kept (next .at)) Label) (eqb (kindAt words kept (next .at + 1)) Colon) refl refl e
   where
     go : (b d : Bool) → eqb (kindAt words kept (next .at)) Label ≡ b → eqb (kindAt words kept (next .at + 1)) Colon ≡ d
@@ -636,9 +635,9 @@ opened-label text words kept {next} {inside} e = go (eqb (kindAt words kept (nex
           further = omega (arith, there);
         }
 
-module _ (text words kept : List ℕ) (i a : ℕ) (t₀ : Tally) (st₀ ar₀ : List ℕ) where
+module _ (text words kept : List ℕ) (i a : ℕ) (t₀ : Progress) (st₀ ar₀ : List ℕ) where
   -- the part's items are read up to the next sign: the macro part's, with the tables as they are
-  pub main-read : {wrong : ℕ} {t label next : Tally} {st ar st₁ ar₁ st₂ : List ℕ} (takes : Bool) → not takes ≡ false
+  pub main-read : {wrong : ℕ} {t label next : Progress} {st ar st₁ ar₁ st₂ : List ℕ} (takes : Bool) → not takes ≡ false
       → BodyWalk text words kept i a t₀ st₀ ar₀ takes wrong t label st ar
       → ItemsLeft takes wrong i a (length kept) (view text words kept) t st ar (Done next) st₁ ar₁
       → st₂ ≡ st₁
@@ -649,10 +648,10 @@ module _ (text words kept : List ℕ) (i a : ℕ) (t₀ : Tally) (st₀ ar₀ : 
       body-parsed i a (length kept) (view text words kept) s (view-inside text words kept) brace (rw (p .part .0, p .part .1, f, p .part .2, p .part .3) at v) (rw w at left)
 
   -- a label's, with its own record written behind them
-  pub label-told : {wrong : ℕ} {t label next : Tally} {st ar st₁ ar₁ st₂ : List ℕ} (takes : Bool) → not takes ≡ true
+  pub label-told : {wrong : ℕ} {t label next : Progress} {st ar st₁ ar₁ st₂ : List ℕ} (takes : Bool) → not takes ≡ true
       → BodyWalk text words kept i a t₀ st₀ ar₀ takes wrong t label st ar
       → ItemsLeft takes wrong i a (length kept) (view text words kept) t st ar (Done next) st₁ ar₁
-      → st₂ ≡ put 8 st₁ (label .statements) (labelWords label i a next)
+      → st₂ ≡ put statementWidth st₁ (label .statements) (labelWords label i a next)
       → Onward i a (length kept) (view text words kept) t₀ st₀ ar₀ next st₂ ar₁
   label-told {wrong} {t} {label} {next} {st} {ar} {st₁} {ar₁} {st₂} true e p v w = absurd (let z : _≡_ {A = ℕ} 0 1 = cc in omega arith)
   label-told {wrong} {t} {label} {next} {st} {ar} {st₁} {ar₁} {st₂} false e p v w =
@@ -662,7 +661,7 @@ module _ (text words kept : List ℕ) (i a : ℕ) (t₀ : Tally) (st₀ ar₀ : 
       λ r st′ ar′ left. p .part .onward r st′ ar′ (turn .step r st′ ar′ left)
 
   -- and what its writer needs
-  pub label-room : {wrong : ℕ} {t label next : Tally} {st ar st₁ ar₁ : List ℕ} (takes : Bool) → not takes ≡ true
+  pub label-room : {wrong : ℕ} {t label next : Progress} {st ar st₁ ar₁ : List ℕ} (takes : Bool) → not takes ≡ true
       → BodyWalk text words kept i a t₀ st₀ ar₀ takes wrong t label st ar
       → ItemsLeft takes wrong i a (length kept) (view text words kept) t st ar (Done next) st₁ ar₁
       → Small label i a 0 0 0 × ((label .statements + 1 ≤ next .statements) × (next .statements ≤ 65536) × (next .at ≤ 65536))
@@ -671,9 +670,9 @@ module _ (text words kept : List ℕ) (i a : ℕ) (t₀ : Tally) (st₀ ar₀ : 
       let v′ : ItemsLeft false 6 i a (length kept) (view text words kept) (skipped label 2 1) st ar (Done next) st₁ ar₁ = rw (p .part .six, p .part .here) at v in
       let g = p .part .counting in (
         record {
-          at = omega (arith, g .few, g .inside);
-          statements = omega (arith, g .few, g .inside, g .statements);
-          arguments = omega (arith, g .few, g .inside, g .arguments);
+          at = omega (arith, g .list .few, g .inside);
+          statements = omega (arith, g .list .few, g .inside, g .statements);
+          arguments = omega (arith, g .list .few, g .inside, g .arguments);
           statementsBefore = g .statementsBefore;
           argumentsBefore = g .argumentsBefore;
           end = omega arith;
@@ -684,7 +683,7 @@ module _ (text words kept : List ℕ) (i a : ℕ) (t₀ : Tally) (st₀ ar₀ : 
       )
 
   -- an item is refused
-  pub part-refused : {wrong c q : ℕ} {t label : Tally} {st ar st₁ ar₁ : List ℕ} (takes : Bool)
+  pub part-refused : {wrong c q : ℕ} {t label : Progress} {st ar st₁ ar₁ : List ℕ} (takes : Bool)
       → BodyWalk text words kept i a t₀ st₀ ar₀ takes wrong t label st ar
       → ItemsLeft takes wrong i a (length kept) (view text words kept) t st ar (Refused c q) st₁ ar₁
       → Promised i a (length kept) (view text words kept) t₀ st₀ ar₀ (Refused c q) st₁ ar₁
@@ -696,7 +695,7 @@ module _ (text words kept : List ℕ) (i a : ℕ) (t₀ : Tally) (st₀ ar₀ : 
       p .part .onward (Refused c q) st₁ ar₁ (groups-refused i a (length kept) (view text words kept) (view-length text words kept) on (label-refused i a (length kept) (view text words kept) label (p .part .sign) (p .part .colon) v′))
 
   -- the body's brace stands behind them
-  pub brace-shut : {next : Tally} {st ar : List ℕ} {k : ℕ} → Onward i a (length kept) (view text words kept) t₀ st₀ ar₀ next st ar
+  pub brace-shut : {next : Progress} {st ar : List ℕ} {k : ℕ} → Onward i a (length kept) (view text words kept) t₀ st₀ ar₀ next st ar
       → KindAt words kept (next .at) k
       → k ≡ CloseBrace
       → Promised i a (length kept) (view text words kept) t₀ st₀ ar₀ (Done (skipped next 1 0)) st ar
@@ -707,7 +706,7 @@ module _ (text words kept : List ℕ) (i a : ℕ) (t₀ : Tally) (st₀ ar₀ : 
       rw there at v
 
   -- no label opens there
-  pub unopened : {next : Tally} {st ar : List ℕ} {k c q : ℕ} → Onward i a (length kept) (view text words kept) t₀ st₀ ar₀ next st ar
+  pub unopened : {next : Progress} {st ar : List ℕ} {k c q : ℕ} → Onward i a (length kept) (view text words kept) t₀ st₀ ar₀ next st ar
       → KindAt words kept (next .at) k
       → (k ≡ CloseBrace → ⊥)
       → Refused c q ≡ labelOpened words kept next
@@ -726,11 +725,11 @@ module _ (text words kept : List ℕ) (i a : ℕ) (t₀ : Tally) (st₀ ar₀ : 
           (no-colon i a (length kept) (view text words kept) next (view-kind text words kept (next .at) ∙ eqb-true _ _ f) (λ z. eqb-false _ _ g (sym (view-kind text words kept (next .at + 1)) ∙ z)))
       go true true f g h = absurd (let z : _≡_ {A = ℕ} 0 1 = cc in omega arith)
 
-  pub body-starts : Counting words kept t₀ i a → (label : Tally) → BodyWalk text words kept i a t₀ st₀ ar₀ true 5 t₀ label st₀ ar₀
+  pub body-starts : Counting words kept t₀ i a → (label : Progress) → BodyWalk text words kept i a t₀ st₀ ar₀ true 5 t₀ label st₀ ar₀
   body-starts h label = record { counting = h; sameStatements = refl; sameArguments = refl; part = (refl, refl, refl, refl) }
 
   -- a turn further: a label opens there, and its items are next
-  pub body-steps : {next inside : Tally} {st ar : List ℕ} → Counting words kept next i a → Onward i a (length kept) (view text words kept) t₀ st₀ ar₀ next st ar
+  pub body-steps : {next inside : Progress} {st ar : List ℕ} → Counting words kept next i a → Onward i a (length kept) (view text words kept) t₀ st₀ ar₀ next st ar
       → Done inside ≡ labelOpened words kept next
       → length st ≡ length st₀
       → length ar ≡ length ar₀

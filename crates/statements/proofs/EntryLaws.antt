@@ -9,49 +9,35 @@ use borrow.Author.Tests.{ltb-false}
 use lib.ListN.{length, getD, take, drop, replicate, length-append}
 use lib.Seq.{sets-eq, take-at}
 use lib.Dec.{ltb}
+use Rattle.tokens.specs.Number.{statementWidth, argumentWidth}
 use Rattle.tokens.specs.Token.{view, tokenCount}
 use Rattle.tokens.specs.Kept.{keptOf}
-use Rattle.tokens.specs.Table.{putAll, clearedBehind}
+use Rattle.tokens.specs.Lent.{putAll, clearedBehind}
 use Rattle.tokens.specs.Door.{keptAfter, Prepared}
 use Rattle.tokens.specs.declared.door.Door.{Door}
 use Rattle.tokens.specs.declared.door.Door.the-variants.{Ready}
-use Rattle.tokens.proofs.DoorLaws.{LetThrough, ready, kept-few}
-use Rattle.tokens.proofs.KeptLaws.{kept-numbered}
-use Rattle.tokens.proofs.TableLaws.{cleared-none, Wide, records-then-zeros}
+use Rattle.tokens.proofs.PlaceLaws.{kept-part}
+use Rattle.tokens.proofs.LentLaws.{cleared-none, Wide, records-then-zeros}
 use Rattle.grammar.specs.Reading.{Reading}
 use Rattle.grammar.specs.Rules.{base}
-use Rattle.grammar.specs.Result.{Res, got, bad, number, beyond}
-use Rattle.grammar.specs.Reader.{bodyFrom, answer, bodyAt}
+use Rattle.grammar.specs.Result.{Res, got, bad, number, beyond, answer}
+use Rattle.grammar.specs.Reader.{bodyFrom, bodyAt}
 use Rattle.grammar.specs.Ranges.{All}
 use Rattle.grammar.specs.Records.{statementRecords, argumentRecords, statementCount, argumentCount}
+use Rattle.grammar.specs.Call.{afterDoor, recordsOf, filled, heldAfter}
 use Rattle.grammar.specs.PlainLength.{plainLength}
 use Rattle.grammar.proofs.Demand.{demand-3}
 use Rattle.grammar.proofs.Recorded.{as-many, as-wide}
-use Rattle.statements.specs.declared.item.Tally.{Tally}
+use Rattle.statements.specs.declared.item.Progress.{Progress}
 use Rattle.statements.specs.declared.item.Items.{Items}
 use Rattle.statements.specs.declared.item.Items.the-variants as items
 use Rattle.statements.specs.declared.entry.Body.{Body}
-use Rattle.statements.specs.declared.entry.Body.the-variants.{Refused, StatementsTooSmall, ArgumentsTooSmall, Read}
-use Rattle.statements.specs.Answers.{Place, BodyParsed}
-use Rattle.statements.specs.Call.{values, settled, afterDoor, recordsOf, filled, tableAfter, readingAt, BodyCall}
+use Rattle.statements.specs.declared.entry.Body.the-variants.{NotWellFormed, KeptTooShort, StartOutside, Refused, StatementsTooSmall, ArgumentsTooSmall, Read}
+use Rattle.statements.specs.Answers.{BodyParsed}
+use Rattle.statements.specs.Call.{values, leaves, settled, afterReading, readingAt, BodyCall}
 use Rattle.statements.specs.Length.{lengthFrom}
 use Rattle.statements.specs.Settled.{settledItems, Settled, BodyRead}
 use Rattle.statements.proofs.LengthLaws.{length-is}
-
--- ---- the kept list
-
--- let through: the part of the kept list up to the count is what was kept
-pub kept-part : (text words : List ℕ) (start : ℕ) (kept : List ℕ) {kept′ : List ℕ} {d : Door} {n : ℕ} → Prepared text words start kept d kept′ → d ≡ Ready n
-    → (take (n - 0) kept′ ≡ keptOf words) × (n ≤ length kept′) × Place words (keptOf words) start
-unfolding keptOf
-kept-part text words start kept {kept′} {d} {n} p e =
-    let l : LetThrough text words start (length kept) n = ready text words start (length kept) (sym (p .answer) ∙ e) in
-    let room : 0 + length (keptOf words) ≤ length kept = omega (arith, l .count, l .room-enough) in
-    let is : kept′ ≡ keptOf words ++ drop (0 + length (keptOf words)) kept = p .list ∙ ap (λ (x : Door). keptAfter x words kept) e ∙ sets-eq (keptOf words) kept 0 room in (
-      ap (take (n - 0)) is ∙ take-at (keptOf words) (drop (0 + length (keptOf words)) kept) (n - 0) (omega (arith, l .count)),
-      omega (arith, ap length is, length-append (keptOf words) (drop (0 + length (keptOf words)) kept), l .count),
-      record { numbered = kept-numbered words; few = omega (arith, kept-few words (tokenCount words) 0, l .few); inside = omega (arith, l .inside, l .count) },
-    )
 
 -- ---- records, then zeros
 
@@ -67,42 +53,42 @@ none-left w t u same = cleared-none w u ∙ ap (λ (n : ℕ). replicate n 0) (sa
 
 -- ---- the answer
 
-abbrev startTally : ℕ → Tally
-startTally start = record { at = start; statements = 0; arguments = 0 }
+abbrev startProgress : ℕ → Progress
+startProgress start = record { at = start; statements = 0; arguments = 0 }
 
 module _ (st ar : List ℕ) (rd : Reading) (cursor : ℕ) where
-  abbrev endTally : Tally
-  endTally = record { at = cursor; statements = statementCount rd; arguments = argumentCount rd }
+  abbrev endProgress : Progress
+  endProgress = record { at = cursor; statements = statementCount rd; arguments = argumentCount rd }
 
-  same-answer : settledItems (items.Done endTally) (plainLength rd) (length st) (length ar) ≡ settled rd cursor (length st) (length ar)
+  same-answer : settledItems (items.Done endProgress) (plainLength rd) (length st) (length ar) ≡ settled rd cursor (length st) (length ar)
   unfolding settled
   same-answer = refl
 
   -- the tables that the settling leaves by the answer r are those that r promises
   abbrev TablesLeft : Body → List ℕ → List ℕ → Type 0
   TablesLeft r st₁ ar₁ =
-      (clearedBehind 8 (getD (values r) 2 0) st₁ ≡ tableAfter r (statementRecords 0 0 rd) st) × (clearedBehind 7 (getD (values r) 3 0) ar₁ ≡ tableAfter r (argumentRecords rd) ar)
+      (clearedBehind statementWidth (getD (values r) 2 0) st₁ ≡ heldAfter (leaves r) (statementRecords 0 0 rd) st) × (clearedBehind argumentWidth (getD (values r) 3 0) ar₁ ≡ heldAfter (leaves r) (argumentRecords rd) ar)
 
-  both-tables : {st₁ ar₁ : List ℕ} → st₁ ≡ putAll 8 st 0 (statementRecords 0 0 rd) → ar₁ ≡ putAll 7 ar 0 (argumentRecords rd)
+  both-tables : {st₁ ar₁ : List ℕ} → st₁ ≡ putAll statementWidth st 0 (statementRecords 0 0 rd) → ar₁ ≡ putAll argumentWidth ar 0 (argumentRecords rd)
       → length st₁ ≡ length st → length ar₁ ≡ length ar
       → TablesLeft (settled rd cursor (length st) (length ar)) st₁ ar₁
   unfolding settled
-  both-tables {st₁} {ar₁} es ea ls la = go (ltb (length st / 8) (statementCount rd)) refl (ltb (length ar / 7) (argumentCount rd)) refl
+  both-tables {st₁} {ar₁} es ea ls la = go (ltb (length st / statementWidth) (statementCount rd)) refl (ltb (length ar / argumentWidth) (argumentCount rd)) refl
     where
-      go : (b : Bool) → ltb (length st / 8) (statementCount rd) ≡ b → (d : Bool) → ltb (length ar / 7) (argumentCount rd) ≡ d
+      go : (b : Bool) → ltb (length st / statementWidth) (statementCount rd) ≡ b → (d : Bool) → ltb (length ar / argumentWidth) (argumentCount rd) ≡ d
           → TablesLeft (cond b (StatementsTooSmall (statementCount rd)) (cond d (ArgumentsTooSmall (argumentCount rd)) (Read cursor (statementCount rd) (argumentCount rd) (plainLength rd)))) st₁ ar₁
-      go true eb d ed = (none-left 8 st st₁ ls, none-left 7 ar ar₁ la)
-      go false eb true ed = (none-left 8 st st₁ ls, none-left 7 ar ar₁ la)
+      go true eb d ed = (none-left statementWidth st st₁ ls, none-left argumentWidth ar ar₁ la)
+      go false eb true ed = (none-left statementWidth st st₁ ls, none-left argumentWidth ar ar₁ la)
       go false eb false ed =
           let many = as-many 0 0 rd in
           let wide = as-wide 0 0 rd in (
-            records-then-zeros 8 (statementRecords 0 0 rd) st (omega arith) (all-wide 8 (statementRecords 0 0 rd) (wide .0)) (many .0) (ltb-false _ _ eb) es,
-            records-then-zeros 7 (argumentRecords rd) ar (omega arith) (all-wide 7 (argumentRecords rd) (wide .1)) (many .1) (ltb-false _ _ ed) ea,
+            records-then-zeros statementWidth (statementRecords 0 0 rd) st (omega arith) (all-wide statementWidth (statementRecords 0 0 rd) (wide .0)) (many .0) (ltb-false _ _ eb) es,
+            records-then-zeros argumentWidth (argumentRecords rd) ar (omega arith) (all-wide argumentWidth (argumentRecords rd) (wide .1)) (many .1) (ltb-false _ _ ed) ea,
           )
 
 -- what the parser read, settled
 pub body-read : (text words kept : List ℕ) (start : ℕ) (st ar : List ℕ) {st₁ ar₁ st₂ ar₂ : List ℕ} {x : Items} {r : Body}
-    → BodyParsed (startTally start) 0 0 (length kept) (bodyFrom base start (drop start (view text words kept))) st ar x st₁ ar₁
+    → BodyParsed (startProgress start) 0 0 (length kept) (bodyFrom base start (drop start (view text words kept))) st ar x st₁ ar₁
     → length st₁ ≡ length st
     → length ar₁ ≡ length ar
     → Settled x (lengthFrom (view text words kept) start) st₁ ar₁ r st₂ ar₂
@@ -117,8 +103,8 @@ body-read text words kept start st ar {st₁} {ar₁} {st₂} {ar₂} {x} {r} v 
         let is : r ≡ Refused (number y) (q + beyond y) = w′ .answer in
         record {
           answer = is ∙ rw e;
-          statementTable = w′ .statementTable ∙ rw is (none-left 8 st st₁ ls);
-          argumentTable = w′ .argumentTable ∙ rw is (none-left 7 ar ar₁ la);
+          statementsHold = w′ .statementsHold ∙ rw is (none-left statementWidth st st₁ ls);
+          argumentsHold = w′ .argumentsHold ∙ rw is (none-left argumentWidth ar ar₁ la);
         }
     go (got rd k) e =
         let v′ = rw e at v in
@@ -127,26 +113,26 @@ body-read text words kept start st ar {st₁} {ar₁} {st₂} {ar₂} {x} {r} v 
         length-is (view text words kept) start k rd (demand-3 base (view text words kept) start k rd .0 (ap answer e)) in
         let is : r ≡ settled rd (start + k) (length st) (length ar) =
         w′ .answer ∙ rw (ls, la, long, zero-add (statementCount rd), zero-add (argumentCount rd)) (same-answer st ar rd (start + k)) in
-        let tables = both-tables st ar rd (start + k) (v′ .statementTable) (v′ .argumentTable) ls la in
+        let tables = both-tables st ar rd (start + k) (v′ .statementsHold) (v′ .argumentsHold) ls la in
         record {
           answer = is ∙ rw e;
-          statementTable = w′ .statementTable ∙ rw (e, is) (tables .0);
-          argumentTable = w′ .argumentTable ∙ rw (e, is) (tables .1);
+          statementsHold = w′ .statementsHold ∙ rw (e, is) (tables .0);
+          argumentsHold = w′ .argumentsHold ∙ rw (e, is) (tables .1);
         }
 
 -- the whole call, by the door's answer
 pub call-from : {text words kept st ar kept′ st′ ar′ : List ℕ} {start : ℕ} {d : Door} {r : Body}
     → Prepared text words start kept d kept′
-    → r ≡ afterDoor d text words start (length st) (length ar)
-    → st′ ≡ tableAfter r (recordsOf (statementRecords 0 0) (readingAt text words start)) st
-    → ar′ ≡ tableAfter r (recordsOf argumentRecords (readingAt text words start)) ar
+    → r ≡ afterDoor NotWellFormed KeptTooShort StartOutside d (afterReading (readingAt text words start) start (length st) (length ar))
+    → st′ ≡ heldAfter (leaves r) (recordsOf (statementRecords 0 0) (readingAt text words start)) st
+    → ar′ ≡ heldAfter (leaves r) (recordsOf argumentRecords (readingAt text words start)) ar
     → BodyCall text words start kept st ar r kept′ st′ ar′
 call-from {text} {words} {kept} {st} {ar} {start = start} {d = d} {r = r} p e f g =
     record {
-      answer = e ∙ ap (λ (x : Door). afterDoor x text words start (length st) (length ar)) (p .answer);
+      answer = e ∙ ap (λ (x : Door). afterDoor NotWellFormed KeptTooShort StartOutside x (afterReading (readingAt text words start) start (length st) (length ar))) (p .answer);
       list = p .list ∙ ap (λ (x : Door). keptAfter x words kept) (p .answer);
-      statementTable = f;
-      argumentTable = g;
+      statementsHold = f;
+      argumentsHold = g;
     }
 
 pub call-read : {text words kept st ar kept′ st′ ar′ : List ℕ} {start n : ℕ} {d : Door} {r : Body}
@@ -156,4 +142,4 @@ pub call-read : {text words kept st ar kept′ st′ ar′ : List ℕ} {start n 
     → BodyCall text words start kept st ar r kept′ st′ ar′
 call-read {text} {words} {kept} {st} {ar} {start = start} {r = r} p e v =
     let v′ = rw (kept-part text words start kept p e .0) at v in
-    call-from p (rw e (v′ .answer)) (v′ .statementTable) (v′ .argumentTable)
+    call-from p (rw e (v′ .answer)) (v′ .statementsHold) (v′ .argumentsHold)

@@ -12,17 +12,18 @@ use lib.ListN.{length, drop}
 use Rattle.tokens.specs.Kind.{OpenParen, OpenBracket, CloseBracket, LeftAngle, RightAngle, Ident, Literal, Opcode, BuiltinFunction}
 use Rattle.tokens.specs.Token.{Token, tokenAt, view, kindAt}
 use Rattle.tokens.specs.Push.{isValuePush, fits}
-use Rattle.tokens.proofs.ViewLaws.{view-kind}
-use Rattle.statements.specs.declared.item.Tally.{Tally}
+use Rattle.tokens.proofs.TokenLaws.{view-kind}
+use Rattle.statements.specs.declared.item.Progress.{Progress}
 use Rattle.grammar.specs.Reading.{Simple, Sort, Argument, aLiteral, anOpcode, aLabelCall, anInvocation, aConstant, anArgumentCall, aBuiltin, single, enclosed, called}
+use Rattle.grammar.specs.Written.{RefusedRead}
 use Rattle.grammar.specs.Result.{plain, overflow, Res, got, bad, refuse, on, oneMore, stepped, look, choose, expect, joined, seq}
 use Rattle.grammar.specs.Reader.{closedList, callArgument, builtinArgument, operandStep, identStep, itemTable, item}
 use Rattle.grammar.specs.Records.{typeOf}
 use Rattle.grammar.proofs.AtPlace.{look-at}
 use Rattle.grammar.proofs.Holds.{cond-says}
 use Rattle.statements.specs.declared.item.Item.the-variants.{Builtin}
-use Rattle.statements.proofs.At.{expect-taken, expect-refused, kind-inside}
-use Rattle.statements.specs.Item.{ItemRead, OneRead, RefusedRead, withList, enclosedItem, opcodeItem, identItem, OnePut, PushPut, pushOpcode, pushLiteral, loneBehind, lonePut}
+use Rattle.lists.proofs.At.{expect-taken, expect-refused, kind-inside}
+use Rattle.statements.specs.Item.{ItemRead, OneRead, withList, enclosedItem, opcodeItem, identItem, OnePut, PushPut, pushOpcode, pushLiteral, loneBehind, lonePut}
 
 -- a call's answer says that a literal overflows, or does not
 pub overflows : (byte : ℕ) (literal : List ℕ) {r : Bool} → r ≡ not (fits byte literal) → r ≡ true → fits byte literal ≡ false
@@ -92,7 +93,7 @@ module _ (takes : Bool) (wrong p : ℕ) (all : List Token) where
         why = plain wrong;
         place = p;
         is = item-at ∙ rw (ne-eqb _ _ a, ne-eqb _ _ b, ne-eqb _ _ c, ne-eqb _ _ d, ne-eqb _ _ e, ne-eqb _ _ f);
-        number = refl;
+        numbered = refl;
         cursor = sym (add-zero p);
       }
 
@@ -152,8 +153,8 @@ module _ (takes : Bool) (wrong p size : ℕ) (all : List Token) (inside : (q : �
         is = step ∙ rw (k, f);
         inside = let i = inside (suc p) (rw (eqb-true (tokenAt all (suc p) .kind) Literal k) (omega arith)) in omega arith;
       })
-      (λ f. record { why = overflow; place = suc p; is = step ∙ rw (k, f); number = refl; cursor = omega arith }))
-      (λ k. record { why = plain 4; place = suc p; is = step ∙ rw k; number = refl; cursor = omega arith }))
+      (λ f. record { why = overflow; place = suc p; is = step ∙ rw (k, f); numbered = refl; cursor = omega arith }))
+      (λ k. record { why = plain 4; place = suc p; is = step ∙ rw k; numbered = refl; cursor = omega arith }))
       (λ w.
       record {
         what = single anOpcode p (tokenAt all p);
@@ -232,14 +233,14 @@ module _ (takes : Bool) (wrong p size : ℕ) (all : List Token) (inside : (q : �
         why = plain 1;
         place = p + 2;
         is = named ∙ ap (λ (r : Res (List Simple)). oneMore (oneMore r)) (expect-refused close (plain 1) (λ r q ts. got (enclosed sort p (tokenAt all (p + 1)) ∷ []) 0) (p + 1 + 1) all (λ z. no l (ap (λ (q : ℕ). tokenAt all q .kind) (sym two) ∙ z))) ∙ ap (bad (plain 1)) two;
-        number = refl;
+        numbered = refl;
         cursor = omega arith;
       }))
       (λ k. record {
         why = plain y;
         place = p + 1;
         is = step ∙ ap oneMore (expect-refused Ident (plain y) (λ i. expect close (plain 1) (λ r q ts. got (enclosed sort p i ∷ []) 0)) (p + 1) all (no k));
-        number = refl;
+        numbered = refl;
         cursor = omega arith;
       })
     where
@@ -256,11 +257,11 @@ module _ (takes : Bool) (wrong p size : ℕ) (all : List Token) (inside : (q : �
   argument-at e = enclosed-at anArgumentCall 13 RightAngle 7 (omega arith) refl (argument-step takes wrong p all e)
 
 -- both records of a push
-pub push-put : {st st₁ st₂ : List ℕ} {s t u : Tally} {i a : ℕ} → OnePut st s i a (pushOpcode s) t st₁ → OnePut st₁ t i a (pushLiteral s) u st₂ → PushPut st s i a u st₂
+pub push-put : {st st₁ st₂ : List ℕ} {s t u : Progress} {i a : ℕ} → OnePut st s i a (pushOpcode s) t st₁ → OnePut st₁ t i a (pushLiteral s) u st₂ → PushPut st s i a u st₂
 push-put {st} {st₁} {s = s} {t = t} {i = i} {a = a} v w =
     record {
-      is = w .is ∙ ap (λ (x : Tally). loneBehind x (pushLiteral s)) (v .is);
-      table = w .table ∙ ap (λ (l : List ℕ). lonePut l t i a (pushLiteral s)) (v .table) ∙ ap (λ (x : Tally). lonePut (lonePut st s i a (pushOpcode s)) x i a (pushLiteral s)) (v .is);
+      is = w .is ∙ ap (λ (x : Progress). loneBehind x (pushLiteral s)) (v .is);
+      table = w .table ∙ ap (λ (l : List ℕ). lonePut l t i a (pushLiteral s)) (v .table) ∙ ap (λ (x : Progress). lonePut (lonePut st s i a (pushOpcode s)) x i a (pushLiteral s)) (v .is);
     }
 
 -- the view's tokens inside the kept list

@@ -1,9 +1,4 @@
 -- Laws that the proofs of this layer cite, and what is proved of its entry; each function's proof has a folder of its own.
-pub mod At
-pub mod Left
-pub mod ArgumentLaws
-pub mod ListLaws
-pub mod SingleLaws
 pub mod ItemLaws
 pub mod Pieces
 pub mod StatementLaws

@@ -7,27 +7,28 @@ use mathlib.Core.Path.{_≡_, refl, sym, ap, _∙_}
 use mathlib.Core.List.{List, [], _∷_, map, append-nil}
 use lib.ListN.{length}
 use Rattle.tokens.specs.Token.{Token}
-use Rattle.tokens.specs.Table.{putAll}
+use Rattle.tokens.specs.Lent.{putAll}
 use Rattle.grammar.specs.Reading.{Argument, Simple, Sort, called}
 use Rattle.grammar.specs.Result.{number, beyond, Res, got, bad}
 use Rattle.grammar.specs.Records.{typeOf, simpleRecord, argumentRecord, argumentsOf, simpleRecords}
-use Rattle.statements.specs.declared.item.Tally.{Tally}
+use Rattle.statements.specs.declared.item.Progress.{Progress}
 use Rattle.statements.specs.declared.item.Lone.{Lone}
 use Rattle.statements.specs.declared.item.Items.{Items}
 use Rattle.statements.specs.declared.item.Items.the-variants.{Done}
-use Rattle.statements.specs.declared.list.ArgList.{ArgList}
-use Rattle.statements.specs.declared.list.ArgList.the-variants as lists
-use Rattle.statements.specs.Answers.{simpleAnswer, simpleArguments, SimpleParsed, ListRead, ListWithin}
+use Rattle.lists.specs.declared.list.ArgList.{ArgList}
+use Rattle.lists.specs.declared.list.ArgList.the-variants as lists
+use Rattle.lists.specs.Answers.{ListRead, ListWithin}
+use Rattle.statements.specs.Answers.{simpleAnswer, simpleArguments, SimpleParsed}
 use Rattle.statements.specs.Item.{OneRead, PushRead, withList, simpleWords, further, OnePut, PushPut, CalledPut, listInside}
 use Rattle.statements.proofs.Pieces.{Piece, piece-parsed, refused-parsed}
 
 -- two tallies with the same numbers
-pub tally-same : {a b c a′ b′ c′ : ℕ} → a ≡ a′ → b ≡ b′ → c ≡ c′
-    → _≡_ {A = Tally} (record { at = a; statements = b; arguments = c }) (record { at = a′; statements = b′; arguments = c′ })
-tally-same e f g = rw (e, f, g)
+pub progress-same : {a b c a′ b′ c′ : ℕ} → a ≡ a′ → b ≡ b′ → c ≡ c′
+    → _≡_ {A = Progress} (record { at = a; statements = b; arguments = c }) (record { at = a′; statements = b′; arguments = c′ })
+progress-same e f g = rw (e, f, g)
 
 -- the record of a statement, by what is known of it
-record-words : (i a : ℕ) (x : Simple) (s : Tally) {ty end count place : ℕ} → typeOf (x .sort) ≡ ty → x .first ≡ s .at → x .end ≡ end → length (x .args) ≡ count → x .place ≡ place
+record-words : (i a : ℕ) (x : Simple) (s : Progress) {ty end count place : ℕ} → typeOf (x .sort) ≡ ty → x .first ≡ s .at → x .end ≡ end → length (x .args) ≡ count → x .place ≡ place
     → simpleRecord (i + s .statements) (a + s .arguments) x ≡ simpleWords s i a ty end count place
 record-words i a x s e f g h k = rw (e, f, g, h, k, add-one)
 
@@ -36,7 +37,7 @@ unfolding argumentsOf
 one-arguments x = append-nil (x .args)
 
 module _ (i a size : ℕ) where
-  simple-from : {s t : Tally} {k n m : ℕ} {rs qs : List (List ℕ)} {st ar st′ ar′ : List ℕ} {read : Res (List Simple)} (ss : List Simple)
+  simple-from : {s t : Progress} {k n m : ℕ} {rs qs : List (List ℕ)} {st ar st′ ar′ : List ℕ} {read : Res (List Simple)} (ss : List Simple)
       → Piece s size k n m rs qs st ar t st′ ar′
       → read ≡ got ss k
       → length ss ≡ n
@@ -47,7 +48,7 @@ module _ (i a size : ℕ) where
   simple-from ss v e en em er ea = piece-parsed simpleAnswer simpleRecords simpleArguments i a ss v e (rw (en, em)) er ea
 
   -- one statement
-  pub one-parsed : {s t : Tally} {st ar st′ : List ℕ} {read : Res (List Simple)} {x : Lone}
+  pub one-parsed : {s t : Progress} {st ar st′ : List ℕ} {read : Res (List Simple)} {x : Lone}
       → OneRead (s .at) size read x → OnePut st s i a x t st′ → SimpleParsed s i a size read st ar (Done t) st′ ar
   unfolding putAll simpleRecords
   one-parsed {s} {t} {st} {ar} {st′} {x = x} o v =
@@ -59,7 +60,7 @@ module _ (i a size : ℕ) where
       piece : Piece s size (o .tokens) 1 0 (simpleWords s i a (x .ty) (x .end) 0 (x .place) ∷ []) [] st ar t st′ ar
       piece =
           record {
-            is = v .is ∙ tally-same (o .behind) refl (sym (add-zero (s .arguments)));
+            is = v .is ∙ progress-same (o .behind) refl (sym (add-zero (s .arguments)));
             statements = v .table;
             arguments = refl;
             inside = omega (arith, o .inside, o .behind);
@@ -68,7 +69,7 @@ module _ (i a size : ℕ) where
           }
 
   -- a push with its literal
-  pub push-parsed : {s t : Tally} {st ar st′ : List ℕ} {all : List Token} {read : Res (List Simple)}
+  pub push-parsed : {s t : Progress} {st ar st′ : List ℕ} {all : List Token} {read : Res (List Simple)}
       → PushRead (s .at) size all read → PushPut st s i a t st′ → SimpleParsed s i a size read st ar (Done t) st′ ar
   unfolding putAll simpleRecords argumentsOf
   push-parsed {s} {t} {st} {ar} {st′} {all} o v =
@@ -85,7 +86,7 @@ module _ (i a size : ℕ) where
           [] st ar t st′ ar
       piece =
           record {
-            is = v .is ∙ tally-same (omega arith) (omega arith) (omega arith);
+            is = v .is ∙ progress-same (omega arith) (omega arith) (omega arith);
             statements = v .table;
             arguments = refl;
             inside = o .inside;
@@ -94,7 +95,7 @@ module _ (i a size : ℕ) where
           }
 
   -- a name or a builtin with its list
-  pub list-parsed : {s : Tally} {st ar st′ ar′ : List ℕ} {read : Res (List Simple)} {list : ArgList} {r : Items} (sort : Sort) (t : Token) (lread : Res (List Argument)) (ty : ℕ)
+  pub list-parsed : {s : Progress} {st ar st′ ar′ : List ℕ} {read : Res (List Simple)} {list : ArgList} {r : Items} (sort : Sort) (t : Token) (lread : Res (List Argument)) (ty : ℕ)
       → read ≡ withList sort (s .at) t lread
       → ListRead (s .arguments) (s .at + 1) size lread ar list ar′
       → CalledPut st s i a ty list r st′
@@ -123,7 +124,7 @@ module _ (i a size : ℕ) where
       piece : Piece s size (suc k) 1 (length args) (simpleWords s i a ty (s .at + 1 + k) (s .arguments + length args - s .arguments) (s .at) ∷ []) (map argumentRecord args) st ar (further s (s .at + 1 + k) (s .arguments + length args)) st′ ar′
       piece =
           record {
-            is = tally-same (omega arith) refl refl;
+            is = progress-same (omega arith) refl refl;
             statements = c′ .table;
             arguments = l .records;
             inside = omega (arith, h .1);
@@ -132,7 +133,7 @@ module _ (i a size : ℕ) where
           }
 
 -- what a list's writer needs
-pub listed-inside : (s : Tally) {p size : ℕ} {ar ar′ : List ℕ} {list : ArgList} (lread : Res (List Argument))
+pub listed-inside : (s : Progress) {p size : ℕ} {ar ar′ : List ℕ} {list : ArgList} (lread : Res (List Argument))
     → ListRead (s .arguments) p size lread ar list ar′ → size ≤ 65536 → s .arguments ≤ p → listInside s list
 listed-inside s {p} {size} {list = list} (got args k) l few h =
     let w : ListWithin (s .arguments) p size (lists.Done (s .arguments + length args) (p + k)) = rw (l .is) at (l .within) in

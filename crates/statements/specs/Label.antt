@@ -4,23 +4,25 @@ use mathlib.Core.Bool.{cond}
 use mathlib.Core.List.{List, [], _∷_}
 use lib.Dec.{eqb}
 use Rattle.tokens.specs.Kind.{Colon, Label}
+use Rattle.tokens.specs.Number.{UnexpectedType, InvalidTokenInMacroBody}
 use Rattle.tokens.specs.Token.{kindAt}
-use Rattle.statements.specs.declared.item.Tally.{Tally}
+use Rattle.grammar.specs.Records.{labelType}
+use Rattle.statements.specs.declared.item.Progress.{Progress}
 use Rattle.statements.specs.declared.item.Items.{Items}
 use Rattle.statements.specs.declared.item.Items.the-variants.{Done, Refused}
 
 -- n tokens further, with m records that are counted already
-abbrev pub skipped : Tally → ℕ → ℕ → Tally
+abbrev pub skipped : Progress → ℕ → ℕ → Progress
 skipped s n m = record { at = s .at + n; statements = s .statements + m; arguments = s .arguments }
 
 -- the words of the label at s.at whose items end at t
-abbrev pub labelWords : Tally → ℕ → ℕ → Tally → List ℕ
+abbrev pub labelWords : Progress → ℕ → ℕ → Progress → List ℕ
 labelWords s i a t =
-    5 ∷ s .at ∷ t .at ∷ (i + s .statements + 1) ∷ (t .statements - (s .statements + 1)) ∷ (a + s .arguments) ∷ 0 ∷ s .at ∷ []
+    labelType ∷ s .at ∷ t .at ∷ (i + s .statements + 1) ∷ (t .statements - (s .statements + 1)) ∷ (a + s .arguments) ∷ 0 ∷ s .at ∷ []
 
--- the Label at s.at and its Colon, by their kinds: the tally at its first item, with its own record counted
-abbrev pub labelOpened : List ℕ → List ℕ → Tally → Items
+-- the Label at s.at and its Colon, by their kinds: the progress at its first item, with its own record counted
+abbrev pub labelOpened : List ℕ → List ℕ → Progress → Items
 labelOpened words kept s =
     cond (eqb (kindAt words kept (s .at)) Label)
-    (cond (eqb (kindAt words kept (s .at + 1)) Colon) (Done (skipped s 2 1)) (Refused 1 (s .at + 1)))
-    (Refused 5 (s .at))
+    (cond (eqb (kindAt words kept (s .at + 1)) Colon) (Done (skipped s 2 1)) (Refused UnexpectedType (s .at + 1)))
+    (Refused InvalidTokenInMacroBody (s .at))

@@ -1,18 +1,22 @@
-// Bodies: the Rust's `parse_label` and `parse_body`. Reading goes on from a tally, and i and a are the numbers of records before the lent tables.
+// Bodies: the Rust's `parse_label` and `parse_body`. Reading goes on from a progress, and i and a are the numbers of records before the lent tables.
 use crate::item::Items;
+use crate::item::Progress;
 use crate::item::Statement;
-use crate::item::Tally;
 use crate::item::parse_item;
 use crate::item::put_statement;
+use tokens::kind;
 use tokens::kind_at;
+use tokens::number;
 ghost use mathlib.Core.Path.{_≡_};
 ghost use lib.ListN.{length};
 ghost use Prim.Native.Nat.{_+_, _≤_};
+ghost use Rattle.tokens.specs.Number.{statementWidth, mostTokens};
 ghost use Rattle.tokens.specs.Token.{Numbered};
 ghost use Rattle.grammar.specs.Rules.{base};
 ghost use Rattle.grammar.specs.Reader.{items, bodyFrom};
-ghost use Rattle.statements.specs.Answers.{Counting, SimpleParsed, BodyParsed, flattened, tokensFrom};
-ghost use Rattle.tokens.specs.Table.{put};
+ghost use Rattle.tokens.specs.Place.{tokensFrom};
+ghost use Rattle.statements.specs.Answers.{Counting, SimpleParsed, BodyParsed, flattened};
+ghost use Rattle.tokens.specs.Lent.{put};
 ghost use Rattle.statements.specs.Item.{Small};
 ghost use Rattle.statements.specs.Label.{skipped, labelWords, labelOpened};
 
@@ -23,7 +27,7 @@ pub fn parse_items(
     kept: &[u32],
     takes: bool,
     wrong: u32,
-    s: Tally,
+    s: Progress,
     statements: &mut [u32],
     arguments: &mut [u32],
     i: usize,
@@ -38,10 +42,10 @@ pub fn parse_items(
     loop {
         let at = t.at;
         let k = kind_at(tokens, kept, at);
-        if k == 39 {
+        if k == kind::LABEL {
             return Items::Done(t);
         }
-        if k == 30 {
+        if k == kind::CLOSE_BRACE {
             return Items::Done(t);
         }
         match parse_item(
@@ -55,7 +59,6 @@ pub fn parse_items(
             arguments,
             i,
             a,
-            k,
         ) {
             Items::Done(next) => {
                 t = next;
@@ -67,12 +70,12 @@ pub fn parse_items(
     }
 }
 
-// The tally n tokens further, with m records that are counted already.
-fn skip(s: Tally, n: usize, m: usize) -> Tally
-    requires { ⌜ (s .at ≤ 65536) × (s .statements ≤ 65536) × (n ≤ 2) × (m ≤ 1) ⌝ }
+// The progress n tokens further, with m records that are counted already.
+fn skip(s: Progress, n: usize, m: usize) -> Progress
+    requires { ⌜ (s .at ≤ mostTokens) × (s .statements ≤ mostTokens) × (n ≤ 2) × (m ≤ 1) ⌝ }
     ensures { λ r. ⌜ r ≡ skipped s n m ⌝ }
 {
-    Tally {
+    Progress {
         at: s.at + n,
         statements: s.statements + m,
         arguments: s.arguments,
@@ -80,10 +83,10 @@ fn skip(s: Tally, n: usize, m: usize) -> Tally
 }
 
 // The record of the label at s.at, whose items are read up to t: only then its end and its inner count are known.
-fn put_label(statements: &mut [u32], s: Tally, i: usize, a: usize, t: Tally)
+fn put_label(statements: &mut [u32], s: Progress, i: usize, a: usize, t: Progress)
     requires { ⌜ Small s i a 0 0 0 ⌝ }
-    requires { ⌜ (s .statements + 1 ≤ t .statements) × (t .statements ≤ 65536) × (t .at ≤ 65536) ⌝ }
-    ensures { λ _. ⌜ now (statements .exit) ≡ put 8 (now (statements .entry)) (s .statements) (labelWords s i a t) ⌝ }
+    requires { ⌜ (s .statements + 1 ≤ t .statements) × (t .statements ≤ mostTokens) × (t .at ≤ mostTokens) ⌝ }
+    ensures { λ _. ⌜ now (statements .exit) ≡ put statementWidth (now (statements .entry)) (s .statements) (labelWords s i a t) ⌝ }
 {
     let n = s.statements;
     let first = s.at as u32;
@@ -95,7 +98,7 @@ fn put_label(statements: &mut [u32], s: Tally, i: usize, a: usize, t: Tally)
         statements,
         n,
         Statement {
-            ty: 5,
+            ty: number::STATEMENT_LABEL,
             first: first,
             end: end,
             inner: own,
@@ -107,18 +110,18 @@ fn put_label(statements: &mut [u32], s: Tally, i: usize, a: usize, t: Tally)
     );
 }
 
-// The Label at s.at and its Colon: the tally at its first item. The label's own record comes first in the table, and is counted here.
-fn open_label(tokens: &[u32], kept: &[u32], s: Tally) -> Items
+// The Label at s.at and its Colon: the progress at its first item. The label's own record comes first in the table, and is counted here.
+fn open_label(tokens: &[u32], kept: &[u32], s: Progress) -> Items
     requires { ⌜ Numbered (now tokens) (now kept) ⌝ }
-    requires { ⌜ (s .at ≤ 65536) × (s .statements ≤ 65536) ⌝ }
+    requires { ⌜ (s .at ≤ mostTokens) × (s .statements ≤ mostTokens) ⌝ }
     ensures { λ r. ⌜ r ≡ labelOpened (now (tokens .entry)) (now (kept .entry)) s ⌝ }
 {
     let at = s.at;
-    if kind_at(tokens, kept, at) != 39 {
-        return Items::Refused(5, at);
+    if kind_at(tokens, kept, at) != kind::LABEL {
+        return Items::Refused(number::INVALID_TOKEN_IN_MACRO_BODY, at);
     }
-    if kind_at(tokens, kept, at + 1) != 36 {
-        return Items::Refused(1, at + 1);
+    if kind_at(tokens, kept, at + 1) != kind::COLON {
+        return Items::Refused(number::UNEXPECTED_TYPE, at + 1);
     }
     Items::Done(skip(s, 2, 1))
 }
@@ -129,7 +132,7 @@ pub fn parse_body(
     text: &[u8],
     tokens: &[u32],
     kept: &[u32],
-    s: Tally,
+    s: Progress,
     statements: &mut [u32],
     arguments: &mut [u32],
     i: usize,
@@ -141,14 +144,14 @@ pub fn parse_body(
         (now (statements .entry)) (now (arguments .entry)) r (now (statements .exit)) (now (arguments .exit)) ⌝ }
 {
     let at = s.at;
-    if kind_at(tokens, kept, at) != 29 {
-        return Items::Refused(1, at);
+    if kind_at(tokens, kept, at) != kind::OPEN_BRACE {
+        return Items::Refused(number::UNEXPECTED_TYPE, at);
     }
     let mut t = skip(s, 1, 0);
     // the label whose items are read, once there is one: from then on a push takes no literal
     let mut label = t;
     let mut takes = true;
-    let mut wrong: u32 = 5;
+    let mut wrong = number::INVALID_TOKEN_IN_MACRO_BODY;
     loop {
         match parse_items(
             text,
@@ -170,7 +173,7 @@ pub fn parse_body(
                     put_label(statements, label, i, a, next);
                 }
                 let p = next.at;
-                if kind_at(tokens, kept, p) == 30 {
+                if kind_at(tokens, kept, p) == kind::CLOSE_BRACE {
                     return Items::Done(skip(next, 1, 0));
                 }
                 match open_label(tokens, kept, next) {
@@ -181,7 +184,7 @@ pub fn parse_body(
                         label = next;
                         t = inside;
                         takes = false;
-                        wrong = 6;
+                        wrong = number::INVALID_TOKEN_IN_LABEL_DEFINITION;
                     }
                 }
             }

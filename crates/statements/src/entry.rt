@@ -1,16 +1,17 @@
 // The entry for one body.
 use crate::body::parse_body;
 use crate::item::Items;
-use crate::item::Tally;
+use crate::item::Progress;
 use crate::length::plain_length;
 use tokens::Door;
 use tokens::clear;
 use tokens::clear_behind;
+use tokens::number;
 use tokens::prepare;
 ghost use mathlib.Core.Path.{_≡_};
 ghost use lib.ListN.{length, replicate};
 ghost use Rattle.tokens.specs.Token.{view};
-ghost use Rattle.statements.specs.Answers.{Place};
+ghost use Rattle.tokens.specs.Place.{Place};
 ghost use Rattle.statements.specs.Length.{lengthFrom};
 ghost use Rattle.statements.specs.Call.{BodyCall};
 ghost use Rattle.statements.specs.Settled.{Settled, BodyRead};
@@ -60,16 +61,16 @@ fn settle(
         Items::Done(t) => {
             let m = t.statements;
             let n = t.arguments;
-            if statements.len() / 8 < m {
+            if statements.len() / number::STATEMENT_WIDTH < m {
                 clear_both(statements, arguments);
                 return Body::StatementsTooSmall(m);
             }
-            if arguments.len() / 7 < n {
+            if arguments.len() / number::ARGUMENT_WIDTH < n {
                 clear_both(statements, arguments);
                 return Body::ArgumentsTooSmall(n);
             }
-            clear_behind(statements, m, 8);
-            clear_behind(arguments, n, 7);
+            clear_behind(statements, m, number::STATEMENT_WIDTH);
+            clear_behind(arguments, n, number::ARGUMENT_WIDTH);
             Body::Read(t.at, m, n, plain_length(text, tokens, kept, start))
         }
     }
@@ -87,7 +88,7 @@ fn reading(
     requires { ⌜ Place (now tokens) (now kept) start ⌝ }
     ensures { λ r. ⌜ BodyRead (now (text .entry)) (now (tokens .entry)) (now (kept .entry)) start (now (statements .entry)) (now (arguments .entry)) r (now (statements .exit)) (now (arguments .exit)) ⌝ }
 {
-    let s = Tally {
+    let s = Progress {
         at: start,
         statements: 0,
         arguments: 0,

@@ -1,34 +1,42 @@
 // Statements, one item at a time: a reader that writes nothing, the writers of its records, and `parse_item` over both.
-use crate::argument::Sort;
-use crate::list::ArgList;
-use crate::list::parse_args;
+use lists::argument::Sort;
+use lists::list::ArgList;
+use lists::list::parse_args;
 use tokens::extra_at;
 use tokens::is_value_push;
+use tokens::kind;
 use tokens::kind_at;
+use tokens::number;
 use tokens::push_overflows;
 use tokens::put_record;
 use tokens::text_at;
 ghost use Prim.Native.Nat.{_+_, _≤_, _<_};
 ghost use mathlib.Core.Path.{_≡_};
 ghost use lib.ListN.{length};
+ghost use Rattle.tokens.specs.Number.{mostTokens};
+ghost use Rattle.tokens.specs.Number.{UnexpectedType, InvalidConstant, InvalidArgCallIdent, statementWidth};
+ghost use Rattle.grammar.specs.Reading.{aConstant, anArgumentCall};
+ghost use Rattle.grammar.specs.Records.{typeOf};
 ghost use Rattle.tokens.specs.Kind.{CloseBracket, OpenParen, RightAngle};
-ghost use Rattle.tokens.specs.Token.{kindAt, extraAt, textAt, view, KindAt};
-ghost use Rattle.tokens.specs.Table.{put};
+ghost use Rattle.tokens.specs.Token.{kindAt, extraAt, textAt, view};
+ghost use Rattle.tokens.specs.Lent.{put};
 ghost use Rattle.grammar.specs.Result.{plain, expect};
 ghost use Rattle.grammar.specs.Reader.{closedList, item};
-ghost use Rattle.statements.specs.Answers.{Place, Counting, SimpleParsed, one, tokensFrom};
+ghost use Rattle.tokens.specs.Place.{Place, tokensFrom};
+ghost use Rattle.lists.specs.Answers.{one};
+ghost use Rattle.statements.specs.Answers.{Counting, SimpleParsed};
 ghost use Rattle.statements.specs.Item.{statementWords, simpleWords, further, Small, enclosedItem, opcodeItem, identItem, ItemRead, OnePut, PushPut, CalledPut, ListPut, listInside};
 
 // How far the reading is: the next place, and the records written so far.
-pub struct Tally {
+pub struct Progress {
     pub at: usize,
     pub statements: usize,
     pub arguments: usize,
 }
 
-// The tally behind what was read; or a refusal's number and cursor.
+// The progress behind what was read; or a refusal's number and cursor.
 pub enum Items {
-    Done(Tally),
+    Done(Progress),
     Refused(u32, usize),
 }
 
@@ -68,11 +76,11 @@ fn enclosed(tokens: &[u32], kept: &[u32], p: usize, wrong: u32, close: u32, ty: 
     requires { ⌜ Place (now tokens) (now kept) p ⌝ }
     ensures { λ r. ⌜ r ≡ enclosedItem wrong close ty p (kindAt (now (tokens .entry)) (now (kept .entry)) (p + 1)) (kindAt (now (tokens .entry)) (now (kept .entry)) (p + 2)) ⌝ }
 {
-    if kind_at(tokens, kept, p + 1) != 38 {
+    if kind_at(tokens, kept, p + 1) != kind::IDENT {
         return Item::Refused(wrong, p + 1);
     }
     if kind_at(tokens, kept, p + 2) != close {
-        return Item::Refused(1, p + 2);
+        return Item::Refused(number::UNEXPECTED_TYPE, p + 2);
     }
     Item::One(Lone {
         ty: ty,
@@ -84,17 +92,31 @@ fn enclosed(tokens: &[u32], kept: &[u32], p: usize, wrong: u32, close: u32, ty: 
 // `[` Ident `]`, from its bracket.
 pub fn parse_constant_push(tokens: &[u32], kept: &[u32], p: usize) -> Item
     requires { ⌜ Place (now tokens) (now kept) p ⌝ }
-    ensures { λ r. ⌜ r ≡ enclosedItem 12 CloseBracket 6 p (kindAt (now (tokens .entry)) (now (kept .entry)) (p + 1)) (kindAt (now (tokens .entry)) (now (kept .entry)) (p + 2)) ⌝ }
+    ensures { λ r. ⌜ r ≡ enclosedItem InvalidConstant CloseBracket (typeOf aConstant) p (kindAt (now (tokens .entry)) (now (kept .entry)) (p + 1)) (kindAt (now (tokens .entry)) (now (kept .entry)) (p + 2)) ⌝ }
 {
-    enclosed(tokens, kept, p, 12, 32, 6)
+    enclosed(
+        tokens,
+        kept,
+        p,
+        number::INVALID_CONSTANT,
+        kind::CLOSE_BRACKET,
+        number::STATEMENT_CONSTANT,
+    )
 }
 
 // `<` Ident `>`, from its angle.
 pub fn parse_arg_call(tokens: &[u32], kept: &[u32], p: usize) -> Item
     requires { ⌜ Place (now tokens) (now kept) p ⌝ }
-    ensures { λ r. ⌜ r ≡ enclosedItem 13 RightAngle 7 p (kindAt (now (tokens .entry)) (now (kept .entry)) (p + 1)) (kindAt (now (tokens .entry)) (now (kept .entry)) (p + 2)) ⌝ }
+    ensures { λ r. ⌜ r ≡ enclosedItem InvalidArgCallIdent RightAngle (typeOf anArgumentCall) p (kindAt (now (tokens .entry)) (now (kept .entry)) (p + 1)) (kindAt (now (tokens .entry)) (now (kept .entry)) (p + 2)) ⌝ }
 {
-    enclosed(tokens, kept, p, 13, 34, 7)
+    enclosed(
+        tokens,
+        kept,
+        p,
+        number::INVALID_ARG_CALL_IDENT,
+        kind::RIGHT_ANGLE,
+        number::STATEMENT_ARGUMENT_CALL,
+    )
 }
 
 // The opcode at p; where a value push takes its literal, with that.
@@ -104,7 +126,7 @@ fn opcode_item(text: &[u8], tokens: &[u32], kept: &[u32], takes: bool, p: usize)
 {
     if !takes {
         return Item::One(Lone {
-            ty: 2,
+            ty: number::STATEMENT_OPCODE,
             end: p + 1,
             place: p,
         });
@@ -112,16 +134,16 @@ fn opcode_item(text: &[u8], tokens: &[u32], kept: &[u32], takes: bool, p: usize)
     let byte = extra_at(tokens, kept, p);
     if !is_value_push(byte) {
         return Item::One(Lone {
-            ty: 2,
+            ty: number::STATEMENT_OPCODE,
             end: p + 1,
             place: p,
         });
     }
-    if kind_at(tokens, kept, p + 1) != 40 {
-        return Item::Refused(4, p + 1);
+    if kind_at(tokens, kept, p + 1) != kind::LITERAL {
+        return Item::Refused(number::INVALID_PUSH, p + 1);
     }
     if push_overflows(byte, text_at(text, tokens, kept, p + 1)) {
-        return Item::Refused(4, p + 2);
+        return Item::Refused(number::INVALID_PUSH, p + 2);
     }
     Item::Push
 }
@@ -131,56 +153,47 @@ fn ident_item(tokens: &[u32], kept: &[u32], p: usize) -> Item
     requires { ⌜ Place (now tokens) (now kept) p ⌝ }
     ensures { λ r. ⌜ r ≡ identItem p (kindAt (now (tokens .entry)) (now (kept .entry)) (p + 1)) ⌝ }
 {
-    if kind_at(tokens, kept, p + 1) == 27 {
+    if kind_at(tokens, kept, p + 1) == kind::OPEN_PAREN {
         return Item::Call;
     }
     Item::One(Lone {
-        ty: 3,
+        ty: number::STATEMENT_LABEL_CALL,
         end: p + 1,
         place: p,
     })
 }
 
-// The item at p, where a token of kind k stands, up to the list that it may have.
-fn one_item(
-    text: &[u8],
-    tokens: &[u32],
-    kept: &[u32],
-    takes: bool,
-    wrong: u32,
-    p: usize,
-    k: u32,
-) -> Item
+// The item at p, up to the list that it may have.
+fn one_item(text: &[u8], tokens: &[u32], kept: &[u32], takes: bool, wrong: u32, p: usize) -> Item
     requires { ⌜ Place (now tokens) (now kept) p ⌝ }
-    requires { ⌜ KindAt (now tokens) (now kept) p k ⌝ }
     ensures { λ r. ⌜ ItemRead p (length (now (kept .entry))) (view (now (text .entry)) (now (tokens .entry)) (now (kept .entry)))
         (item takes wrong p (tokensFrom (now (text .entry)) (now (tokens .entry)) (now (kept .entry)) p)) r ⌝ }
 {
-    match k {
-        40 => {
+    match kind_at(tokens, kept, p) {
+        kind::LITERAL => {
             Item::One(Lone {
-                ty: 1,
+                ty: number::STATEMENT_LITERAL,
                 end: p + 1,
                 place: p,
             })
         }
-        41 => opcode_item(text, tokens, kept, takes, p),
-        38 => ident_item(tokens, kept, p),
-        31 => parse_constant_push(tokens, kept, p),
-        33 => parse_arg_call(tokens, kept, p),
-        44 => Item::Builtin,
+        kind::OPCODE => opcode_item(text, tokens, kept, takes, p),
+        kind::IDENT => ident_item(tokens, kept, p),
+        kind::OPEN_BRACKET => parse_constant_push(tokens, kept, p),
+        kind::LEFT_ANGLE => parse_arg_call(tokens, kept, p),
+        kind::BUILTIN_FUNCTION => Item::Builtin,
         _ => Item::Refused(wrong, p),
     }
 }
 
 // ---- writing
 
-// The tally behind a statement that ends at `end`.
-fn moved(s: Tally, end: usize, arguments: usize) -> Tally
-    requires { ⌜ s .statements ≤ 65536 ⌝ }
+// The progress behind a statement that ends at `end`.
+fn moved(s: Progress, end: usize, arguments: usize) -> Progress
+    requires { ⌜ s .statements ≤ mostTokens ⌝ }
     ensures { λ r. ⌜ r ≡ further s end arguments ⌝ }
 {
-    Tally {
+    Progress {
         at: end,
         statements: s.statements + 1,
         arguments: arguments,
@@ -189,7 +202,7 @@ fn moved(s: Tally, end: usize, arguments: usize) -> Tally
 
 // Statement record number n.
 pub fn put_statement(statements: &mut [u32], n: usize, s: Statement)
-    ensures { λ _. ⌜ now (statements .exit) ≡ put 8 (now (statements .entry)) n (statementWords s) ⌝ }
+    ensures { λ _. ⌜ now (statements .exit) ≡ put statementWidth (now (statements .entry)) n (statementWords s) ⌝ }
 {
     let words = [
         s.ty,
@@ -207,7 +220,7 @@ pub fn put_statement(statements: &mut [u32], n: usize, s: Statement)
 // The record of a statement that is no label and begins at s.at, as the next one: number i + s.statements of the whole table.
 fn put_simple(
     statements: &mut [u32],
-    s: Tally,
+    s: Progress,
     i: usize,
     a: usize,
     ty: u32,
@@ -216,7 +229,7 @@ fn put_simple(
     place: usize,
 )
     requires { ⌜ Small s i a end arguments place ⌝ }
-    ensures { λ _. ⌜ now (statements .exit) ≡ put 8 (now (statements .entry)) (s .statements) (simpleWords s i a ty end arguments place) ⌝ }
+    ensures { λ _. ⌜ now (statements .exit) ≡ put statementWidth (now (statements .entry)) (s .statements) (simpleWords s i a ty end arguments place) ⌝ }
 {
     let first = s.at as u32;
     let inner = (i + s.statements + 1) as u32;
@@ -234,8 +247,8 @@ fn put_simple(
     put_statement(statements, s.statements, words);
 }
 
-// One statement, and the tally behind it.
-fn put_one(statements: &mut [u32], s: Tally, i: usize, a: usize, x: Lone) -> Tally
+// One statement, and the progress behind it.
+fn put_one(statements: &mut [u32], s: Progress, i: usize, a: usize, x: Lone) -> Progress
     requires { ⌜ Small s i a (x .end) 0 (x .place) ⌝ }
     ensures { λ r. ⌜ OnePut (now (statements .entry)) s i a x r (now (statements .exit)) ⌝ }
 {
@@ -246,7 +259,14 @@ fn put_one(statements: &mut [u32], s: Tally, i: usize, a: usize, x: Lone) -> Tal
 }
 
 // A statement with the list of arguments behind it, which is read already; or the list's refusal.
-fn put_called(statements: &mut [u32], s: Tally, i: usize, a: usize, ty: u32, list: ArgList) -> Items
+fn put_called(
+    statements: &mut [u32],
+    s: Progress,
+    i: usize,
+    a: usize,
+    ty: u32,
+    list: ArgList,
+) -> Items
     requires { ⌜ Small s i a 0 0 0 ⌝ }
     requires { ⌜ listInside s list ⌝ }
     ensures { λ r. ⌜ CalledPut (now (statements .entry)) s i a ty list r (now (statements .exit)) ⌝ }
@@ -263,21 +283,21 @@ fn put_called(statements: &mut [u32], s: Tally, i: usize, a: usize, ty: u32, lis
 }
 
 // A value push at s.at with its literal: two statements.
-fn put_push(statements: &mut [u32], s: Tally, i: usize, a: usize) -> Tally
+fn put_push(statements: &mut [u32], s: Progress, i: usize, a: usize) -> Progress
     requires { ⌜ Small s i a 0 0 0 ⌝ }
-    requires { ⌜ (s .at + 2 ≤ 65536) × (s .statements ≤ s .at) ⌝ }
+    requires { ⌜ (s .at + 2 ≤ mostTokens) × (s .statements ≤ s .at) ⌝ }
     ensures { λ r. ⌜ PushPut (now (statements .entry)) s i a r (now (statements .exit)) ⌝ }
 {
     let p = s.at + 1;
     let opcode = Lone {
-        ty: 2,
+        ty: number::STATEMENT_OPCODE,
         end: p,
         place: s.at,
     };
     let t = put_one(statements, s, i, a, opcode);
     let end = p + 1;
     let literal = Lone {
-        ty: 1,
+        ty: number::STATEMENT_LITERAL,
         end: end,
         place: p,
     };
@@ -291,7 +311,7 @@ fn parse_called(
     kept: &[u32],
     sort: Sort,
     ty: u32,
-    s: Tally,
+    s: Progress,
     statements: &mut [u32],
     arguments: &mut [u32],
     i: usize,
@@ -300,7 +320,7 @@ fn parse_called(
     requires { ⌜ Counting (now tokens) (now kept) s i a ⌝ }
     requires { ⌜ s .at < length (now kept) ⌝ }
     ensures { λ r. ⌜ ListPut s i a ty (length (now (kept .entry)))
-        (expect OpenParen (plain 1) (λ o. closedList (one sort)) (s .at + 1) (tokensFrom (now (text .entry)) (now (tokens .entry)) (now (kept .entry)) (s .at + 1)))
+        (expect OpenParen (plain UnexpectedType) (λ o. closedList (one sort)) (s .at + 1) (tokensFrom (now (text .entry)) (now (tokens .entry)) (now (kept .entry)) (s .at + 1)))
         (now (statements .entry)) (now (arguments .entry)) r (now (statements .exit)) (now (arguments .exit)) ⌝ }
 {
     let p = s.at + 1;
@@ -310,28 +330,26 @@ fn parse_called(
 }
 
 // An item at s.at, written from record s.statements and s.arguments of the lent tables on; i and a are the numbers of records before the lent tables.
-// `takes`: a value push takes its literal here; `wrong`: the number for a token that begins no item; k: the kind at s.at, which the caller has looked at.
+// `takes`: a value push takes its literal here; `wrong`: the number for a token that begins no item.
 pub fn parse_item(
     text: &[u8],
     tokens: &[u32],
     kept: &[u32],
     takes: bool,
     wrong: u32,
-    s: Tally,
+    s: Progress,
     statements: &mut [u32],
     arguments: &mut [u32],
     i: usize,
     a: usize,
-    k: u32,
 ) -> Items
     requires { ⌜ Counting (now tokens) (now kept) s i a ⌝ }
-    requires { ⌜ KindAt (now tokens) (now kept) (s .at) k ⌝ }
     ensures { λ r. ⌜ SimpleParsed s i a (length (now (kept .entry)))
         (item takes wrong (s .at) (tokensFrom (now (text .entry)) (now (tokens .entry)) (now (kept .entry)) (s .at)))
         (now (statements .entry)) (now (arguments .entry)) r (now (statements .exit)) (now (arguments .exit)) ⌝ }
 {
     let at = s.at;
-    match one_item(text, tokens, kept, takes, wrong, at, k) {
+    match one_item(text, tokens, kept, takes, wrong, at) {
         Item::One(x) => Items::Done(put_one(statements, s, i, a, x)),
         Item::Push => Items::Done(put_push(statements, s, i, a)),
         Item::Call => parse_called(
@@ -339,7 +357,7 @@ pub fn parse_item(
             tokens,
             kept,
             Sort::Call,
-            4,
+            number::STATEMENT_INVOCATION,
             s,
             statements,
             arguments,
@@ -351,7 +369,7 @@ pub fn parse_item(
             tokens,
             kept,
             Sort::Builtin,
-            8,
+            number::STATEMENT_BUILTIN,
             s,
             statements,
             arguments,

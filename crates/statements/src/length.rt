@@ -1,7 +1,9 @@
 // The plain length of an accepted body. Only a body call answers it, so it has a walk of its own and costs a file's reading nothing.
 use tokens::extra_at;
 use tokens::is_value_push;
+use tokens::kind;
 use tokens::kind_at;
+use tokens::number;
 use tokens::push_size;
 use tokens::significant_bytes;
 use tokens::text_at;
@@ -10,7 +12,7 @@ ghost use mathlib.Core.Bool.{_&&_, not};
 ghost use Prim.Native.Nat.{_≤_};
 ghost use lib.Dec.{eqb};
 ghost use Rattle.tokens.specs.Token.{view, tokenAt, KindAt, Numbered};
-ghost use Rattle.statements.specs.Answers.{Place};
+ghost use Rattle.tokens.specs.Place.{Place};
 ghost use Rattle.statements.specs.Length.{plainKind, tokenBytes, awaitedBehind, lengthFrom};
 
 // A kind that a body with a length may have between its braces.
@@ -18,11 +20,11 @@ fn is_plain(k: u32) -> bool
     ensures { λ r. ⌜ r ≡ plainKind k ⌝ }
 {
     match k {
-        40 => true,
-        41 => true,
-        38 => true,
-        39 => true,
-        36 => true,
+        kind::LITERAL => true,
+        kind::OPCODE => true,
+        kind::IDENT => true,
+        kind::LABEL => true,
+        kind::COLON => true,
         _ => false,
     }
 }
@@ -36,14 +38,14 @@ fn token_bytes(text: &[u8], tokens: &[u32], kept: &[u32], n: usize, p: usize, k:
     ensures { λ r. ⌜ r ≤ 33 ⌝ }
 {
     match k {
-        40 => {
+        kind::LITERAL => {
             if n != 0 {
                 return n;
             }
             significant_bytes(text_at(text, tokens, kept, p)) + 1
         }
-        38 => 3,
-        36 => 0,
+        kind::IDENT => 3,
+        kind::COLON => 0,
         _ => 1,
     }
 }
@@ -58,7 +60,7 @@ fn awaited_behind(text: &[u8], tokens: &[u32], kept: &[u32], takes: bool, p: usi
     if !takes {
         return 0;
     }
-    if k != 41 {
+    if k != kind::OPCODE {
         return 0;
     }
     let byte = extra_at(tokens, kept, p);
@@ -75,7 +77,7 @@ fn takes_behind(takes: bool, k: u32) -> bool
     if !takes {
         return false;
     }
-    k != 39
+    k != kind::LABEL
 }
 
 // The bytes of the body at `start`, or NONE if one of its statements has no length.
@@ -89,11 +91,11 @@ pub fn plain_length(text: &[u8], tokens: &[u32], kept: &[u32], start: usize) -> 
     let mut p = start + 1;
     loop {
         let k = kind_at(tokens, kept, p);
-        if k == 30 {
+        if k == kind::CLOSE_BRACE {
             return bytes;
         }
         if !is_plain(k) {
-            return 4294967295;
+            return number::NO_LENGTH;
         }
         bytes += token_bytes(text, tokens, kept, awaited, p, k);
         awaited = awaited_behind(text, tokens, kept, takes, p, k);

@@ -1,9 +1,10 @@
 -- The laws that every layer cites stand here once; each function's proof has a folder of its own.
 pub mod Laws
-pub mod Value
+pub mod LiteralLaws
 pub mod NameLaws
 pub mod DoorLaws
-pub mod ViewLaws
+pub mod TokenLaws
 pub mod KeptLaws
+pub mod PlaceLaws
 pub mod Fixed
-pub mod TableLaws
+pub mod LentLaws

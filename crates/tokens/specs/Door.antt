@@ -8,15 +8,16 @@ use lib.Seq.{sets}
 use lib.Dec.{ltb}
 use Rattle.tokens.specs.declared.door.Door.{Door}
 use Rattle.tokens.specs.declared.door.Door.the-variants.{NotWellFormed, KeptTooShort, StartOutside, Ready}
+use Rattle.tokens.specs.Number as number
 use Rattle.tokens.specs.Token.{tokenCount}
 use Rattle.tokens.specs.WellFormed.{wholeGood, firstBad}
 use Rattle.tokens.specs.Kept.{keptOf}
 
 -- document 01's number for each answer; 0 let through
 abbrev pub numberOf : Door → ℕ
-numberOf (NotWellFormed at) = 30
-numberOf (KeptTooShort count) = 35
-numberOf (StartOutside at) = 31
+numberOf (NotWellFormed at) = number.NotWellFormed
+numberOf (KeptTooShort count) = number.KeptTooShort
+numberOf (StartOutside at) = number.StartOutside
 numberOf (Ready count) = 0
 
 -- its cursor: the first bad token's number (0 for the whole list), the kept count, the start

@@ -1,5 +1,6 @@
 -- What the promises of the token layer mean, in the order of document 01. A reader has to believe these files and nothing else of the crate.
 pub mod Kind
+pub mod Number
 pub mod Byte
 pub mod Name
 pub mod Literal
@@ -8,4 +9,5 @@ pub mod Token
 pub mod WellFormed
 pub mod Kept
 pub mod Door
-pub mod Table
+pub mod Place
+pub mod Lent

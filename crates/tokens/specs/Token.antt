@@ -6,6 +6,7 @@ use mathlib.Core.Bool.{cond}
 use lib.ListN.{length, getD, take, drop}
 use lib.Dec.{ltb}
 use Rattle.tokens.specs.Kind.{Eof}
+use Rattle.tokens.specs.Number.{tokenWidth}
 
 -- all that a rule may look at
 pub record Token : Type 0 where
@@ -20,20 +21,20 @@ eofToken = record { kind = Eof; text = []; extra = 0 }
 
 -- how many tokens the words hold
 abbrev pub tokenCount : List ℕ → ℕ
-tokenCount words = length words / 4
+tokenCount words = length words / tokenWidth
 
 -- the fields of token number i, of the lent list; past the end 0
 abbrev pub kindOf : List ℕ → ℕ → ℕ
-kindOf words i = getD words (i * 4) 0
+kindOf words i = getD words (i * tokenWidth) 0
 
 abbrev pub startOf : List ℕ → ℕ → ℕ
-startOf words i = getD words (i * 4 + 1) 0
+startOf words i = getD words (i * tokenWidth + 1) 0
 
 abbrev pub endOf : List ℕ → ℕ → ℕ
-endOf words i = getD words (i * 4 + 2) 0
+endOf words i = getD words (i * tokenWidth + 2) 0
 
 abbrev pub extraOf : List ℕ → ℕ → ℕ
-extraOf words i = getD words (i * 4 + 3) 0
+extraOf words i = getD words (i * tokenWidth + 3) 0
 
 -- the bytes of a text from one place up to another
 abbrev pub part : List ℕ → ℕ → ℕ → List ℕ
@@ -57,7 +58,7 @@ pub record Numbered (words kept : List ℕ) : Type 0 where
 
 -- word j of the token at place p of the kept list, past its end 0: the kind (Eof there), the start, the end, the extra
 unfoldable pub fieldAt : ℕ → List ℕ → List ℕ → ℕ → ℕ
-fieldAt j words kept p = cond (ltb p (length kept)) (getD words (getD kept p 0 * 4 + j) 0) 0
+fieldAt j words kept p = cond (ltb p (length kept)) (getD words (getD kept p 0 * tokenWidth + j) 0) 0
 
 abbrev pub kindAt : List ℕ → List ℕ → ℕ → ℕ
 kindAt = fieldAt 0

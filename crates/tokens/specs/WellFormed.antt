@@ -6,13 +6,14 @@ use mathlib.Core.List.{List}
 use lib.ListN.{length}
 use lib.Dec.{leb, ltb, eqb}
 use Rattle.tokens.specs.Kind.{kinds, Eof, Ident, Label, Literal, Opcode, Num}
+use Rattle.tokens.specs.Number.{tokenWidth, mostBytes, mostTokens}
 use Rattle.tokens.specs.Token.{tokenCount, kindOf, startOf, endOf, extraOf, part}
 use Rattle.tokens.specs.Literal.{isLiteral}
 
 -- the whole list: the text at most 1,048,576 bytes, the words four a token, 1 to 65,536 tokens
 unfoldable pub wholeGood : List ℕ → List ℕ → Bool
 wholeGood text words =
-    leb (length text) 1048576 && eqb (length words % 4) 0 && ltb 0 (tokenCount words) && leb (tokenCount words) 65536
+    leb (length text) mostBytes && eqb (length words % tokenWidth) 0 && ltb 0 (tokenCount words) && leb (tokenCount words) mostTokens
 
 -- where the token before number i ends; before the first, 0
 unfoldable pub prevEnd : List ℕ → ℕ → ℕ

@@ -1,5 +1,7 @@
 // The door: refusals 30, 35 and 31, in that order, before anything lent is written; then the kept list.
+use crate::kind;
 use crate::literal::is_literal;
+use crate::number;
 use crate::token::part_of;
 ghost use mathlib.Core.Path.{_≡_};
 ghost use Prim.Native.Nat.{_<_, _≤_};
@@ -42,7 +44,7 @@ fn range_good(size: usize, prev: u32, start: u32, end: u32) -> bool
 fn last_good(kind: u32, extra: u32) -> bool
     ensures { λ r. ⌜ r ≡ (eqb kind Eof && eqb extra 0) ⌝ }
 {
-    if kind != 0 {
+    if kind != kind::EOF {
         return false;
     }
     extra == 0
@@ -53,29 +55,29 @@ fn last_good(kind: u32, extra: u32) -> bool
 fn contents_good(text: &[u8], kind: u32, start: u32, end: u32, extra: u32) -> bool
     ensures { λ r. ⌜ r ≡ (ltb kind kinds && eofGood false kind && contentsGood (now (text .entry)) kind start end extra) ⌝ }
 {
-    if (kind != 0) & (kind < 38) {
+    if (kind != kind::EOF) & (kind < kind::IDENT) {
         return extra == 0;
     }
-    if kind == 41 {
+    if kind == kind::OPCODE {
         return extra <= 255;
     }
-    if kind == 42 {
+    if kind == kind::NUM {
         return true;
     }
     if extra != 0 {
         return false;
     }
     let part = part_of(text, start as usize, end as usize);
-    if kind == 40 {
+    if kind == kind::LITERAL {
         return is_literal(part);
     }
-    if kind == 0 {
+    if kind == kind::EOF {
         return false;
     }
-    if kind < 40 {
+    if kind < kind::LITERAL {
         return 0 < part.len();
     }
-    kind < 46
+    kind < kind::KINDS
 }
 
 // Token number i is as it should be, where the one before it ends at prev.
@@ -83,14 +85,14 @@ fn token_good(text: &[u8], tokens: &[u32], prev: u32, i: usize) -> bool
     requires { ⌜ i < tokenCount (now tokens) ⌝ }
     ensures { λ r. ⌜ r ≡ goodAfter (now (text .entry)) (now (tokens .entry)) prev i ⌝ }
 {
-    let kind = tokens[i * 4];
-    let start = tokens[i * 4 + 1];
-    let end = tokens[i * 4 + 2];
-    let extra = tokens[i * 4 + 3];
+    let kind = tokens[i * number::TOKEN_WIDTH];
+    let start = tokens[i * number::TOKEN_WIDTH + 1];
+    let end = tokens[i * number::TOKEN_WIDTH + 2];
+    let extra = tokens[i * number::TOKEN_WIDTH + 3];
     if !range_good(text.len(), prev, start, end) {
         return false;
     }
-    if i + 1 == tokens.len() / 4 {
+    if i + 1 == tokens.len() / number::TOKEN_WIDTH {
         return last_good(kind, extra);
     }
     contents_good(text, kind, start, end, extra)
@@ -100,14 +102,14 @@ fn token_good(text: &[u8], tokens: &[u32], prev: u32, i: usize) -> bool
 fn first_bad(text: &[u8], tokens: &[u32]) -> usize
     ensures { λ r. ⌜ r ≡ firstBad (now (text .entry)) (now (tokens .entry)) ⌝ }
 {
-    let n = tokens.len() / 4;
+    let n = tokens.len() / number::TOKEN_WIDTH;
     let mut prev: u32 = 0;
     let mut i = 0;
     while i < n {
         if !token_good(text, tokens, prev, i) {
             return i;
         }
-        prev = tokens[i * 4 + 2];
+        prev = tokens[i * number::TOKEN_WIDTH + 2];
         i += 1;
     }
     i
@@ -117,17 +119,17 @@ fn first_bad(text: &[u8], tokens: &[u32]) -> usize
 fn whole_good(text: &[u8], tokens: &[u32]) -> bool
     ensures { λ r. ⌜ r ≡ wholeGood (now (text .entry)) (now (tokens .entry)) ⌝ }
 {
-    if 1048576 < text.len() {
+    if number::MOST_BYTES < text.len() {
         return false;
     }
-    let n = tokens.len() / 4;
+    if tokens.len() % number::TOKEN_WIDTH != 0 {
+        return false;
+    }
+    let n = tokens.len() / number::TOKEN_WIDTH;
     if n == 0 {
         return false;
     }
-    if tokens.len() % 4 != 0 {
-        return false;
-    }
-    n <= 65536
+    n <= number::MOST_TOKENS
 }
 
 // 1 for a token that is kept, 0 for one that is dropped: behind Eof the first two kinds are. No branch: which it is can't be foreseen.
@@ -135,7 +137,7 @@ fn kept_one(kind: u32) -> usize
     requires { ⌜ 0 < kind ⌝ }
     ensures { λ r. ⌜ r ≡ cond (dropped kind) 0 1 ⌝ }
 {
-    if 2 < kind { 1 } else { 0 }
+    if kind::COMMENT < kind { 1 } else { 0 }
 }
 
 // The kept count of a list in which no token is bad; 0 where one is. That a token ends inside the text is asked of the last one alone, since every token ends
@@ -144,7 +146,7 @@ fn count_good(text: &[u8], tokens: &[u32]) -> usize
     requires { ⌜ wholeGood (now text) (now tokens) ≡ true ⌝ }
     ensures { λ r. ⌜ r ≡ cond (ltb (firstBad (now (text .entry)) (now (tokens .entry))) (tokenCount (now (tokens .entry)))) 0 (length (keptOf (now (tokens .entry)))) ⌝ }
 {
-    let last = tokens.len() - 4;
+    let last = tokens.len() - number::TOKEN_WIDTH;
     let mut count = 1;
     let mut prev: u32 = 0;
     let mut at = 0;
@@ -163,7 +165,7 @@ fn count_good(text: &[u8], tokens: &[u32]) -> usize
         }
         count += kept_one(kind);
         prev = end;
-        at += 4;
+        at += number::TOKEN_WIDTH;
     }
     if !range_good(text.len(), prev, tokens[at + 1], tokens[at + 2]) {
         return 0;
@@ -182,12 +184,12 @@ fn keep(tokens: &[u32], kept: &mut [u32])
     requires { ⌜ EofLast (now tokens) ⌝ }
     ensures { λ _. ⌜ now (kept .exit) ≡ sets (now (kept .entry)) 0 (keptOf (now (tokens .entry))) ⌝ }
 {
-    let last = tokens.len() / 4 - 1;
+    let last = tokens.len() / number::TOKEN_WIDTH - 1;
     let mut m = 0;
     let mut i = 0;
     while i < last {
         kept[m] = i as u32;
-        m += kept_one(tokens[i * 4]);
+        m += kept_one(tokens[i * number::TOKEN_WIDTH]);
         i += 1;
     }
     kept[m] = i as u32;
@@ -213,7 +215,7 @@ fn write_kept(tokens: &[u32], kept: &mut [u32], count: usize)
     requires { ⌜ EofLast (now tokens) ⌝ }
     ensures { λ _. ⌜ now (kept .exit) ≡ sets (now (kept .entry)) 0 (keptOf (now (tokens .entry))) ⌝ }
 {
-    if count == tokens.len() / 4 {
+    if count == tokens.len() / number::TOKEN_WIDTH {
         keep_all(kept, count);
     } else {
         keep(tokens, kept);

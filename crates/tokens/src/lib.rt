@@ -1,14 +1,20 @@
 // The token layer: what is lent is tested at the door, tokens are read by their place, records are written where they fit.
 // Nothing here asks anything of its caller.
 pub mod door;
+pub mod kind;
+pub mod lent;
 pub mod literal;
 pub mod name;
+pub mod number;
 pub mod push;
-pub mod table;
 pub mod token;
 
 pub use door::Door;
 pub use door::prepare;
+pub use lent::clear;
+pub use lent::clear_behind;
+pub use lent::put_record;
+pub use lent::start_of;
 pub use literal::all_hex;
 pub use literal::is_hex;
 pub use literal::is_literal;
@@ -18,10 +24,6 @@ pub use name::same_name;
 pub use push::is_value_push;
 pub use push::push_overflows;
 pub use push::push_size;
-pub use table::clear;
-pub use table::clear_behind;
-pub use table::put_record;
-pub use table::start_of;
 pub use token::end_at;
 pub use token::extra_at;
 pub use token::kind_at;

@@ -1,5 +1,6 @@
 // A token by its place in the kept list. Every place may be asked: past the end stands an Eof with no text. That the numbers of the kept list are those of tokens
 // is the door's promise, so it is not tested again for each token.
+use crate::number;
 ghost use mathlib.Core.Path.{_≡_};
 ghost use Prim.Native.Nat.{_≤_, min};
 ghost use lib.ListN.{getD};
@@ -20,7 +21,7 @@ fn field_at(tokens: &[u32], kept: &[u32], p: usize, j: usize) -> u32
 {
     if p < kept.len() {
         let number = kept[p] as usize;
-        tokens[number * 4 + j]
+        tokens[number * number::TOKEN_WIDTH + j]
     } else {
         0
     }

@@ -1,13 +1,16 @@
+use Rattle.tokens.specs.Kind.{Function}
+use Rattle.grammar.specs.FileRecords.{functionNumber}
+use Rattle.definitions.proofs.HeadLaws.{refused-parsed}
 use Prim.Native.Nat.{_+_}
 use mathlib.Core.Path.{refl}
 use native.Mathlib.Omega.{arith}
-use borrow.Author.Needs.{needs}
 use lib.ListN.{length, drop}
 use Rattle.tokens.specs.Token.{view}
 use Rattle.grammar.specs.FileReader.{functionRest, parseFunction}
 use Rattle.definitions.specs.declared.head.Head.the-variants as heads
 use Rattle.definitions.specs.Pieces.{Headed}
-use Rattle.definitions.proofs.DefinitionLaws.{refused-plain, refused-parsed, signature-parsed, signature-fits}
+use Rattle.definitions.proofs.DefinitionLaws.{refused-plain, signature-parsed, signature-fits}
+use borrow.Author.Needs.{needs}
 use Rattle.definitions.proofs.definition.parse_function.Statement.{statement}
 use Rattle.definitions.proofs.definition.parse_function.Tie as tie
 
@@ -25,42 +28,39 @@ add-function-behind c = search needs
 
 function-behind-requires : tie.Need-function-behind-requires
 function-behind-requires c κs =
-    let args = c .before .before .before .before .before .before .before .before .before .before .args in
+    let args = c .before .before .before .before .before .before .before .before .args in
     let all = view (args .text .now) (args .tokens .now) (args .kept .now) in
-    let h : Headed all 9 (args .p) (length (args .kept .now)) heads.Named = rw (c .before .enum-told .given .1) at (c .before .before .before .read-head .ensures) in
-    record { numbered = c .before .before .before .before .before .before .before .before .before .before .pre .numbered; few = omega arith; inside = omega (arith, h .2) }
+    let h : Headed all Function (args .p) (length (args .kept .now)) heads.Named = rw (c .before .enum-told .given .1) at (c .before .before .before .read-head .ensures (args .text .now)) in
+    record { list = c .before .before .before .before .before .before .before .before .pre .list; inside = omega (arith, h .2) }
 
-add-put-signature : tie.Need-add-put-signature
-add-put-signature c = search needs
+add-signed : tie.Need-add-signed
+add-signed c = search needs
 
-put-signature-requires : tie.Need-put-signature-requires
-put-signature-requires c κs =
-    let args = c .before .before .before .before .before .before .before .before .before .before .before .before .before .before .args in
+signed-requires : tie.Need-signed-requires
+signed-requires c κs =
+    let args = c .before .before .before .before .before .before .before .before .before .before .before .args in
     let all = view (args .text .now) (args .tokens .now) (args .kept .now) in
-    let h : Headed all 9 (args .p) (length (args .kept .now)) heads.Named = rw (c .before .before .before .before .before .enum-told .given .1) at (c .before .before .before .before .before .before .before .read-head .ensures) in
-    signature-fits 2 (args .p + 2) (length (args .kept .now)) (functionRest (args .p + 2) (drop (args .p + 2) all)) _ _ (c .before .before .before .function-behind .result) (c .before .before .before .function-behind .ensures) (omega arith) (omega (arith, h .2)) (omega arith) (omega arith) (omega arith)
+    let h : Headed all Function (args .p) (length (args .kept .now)) heads.Named = rw (c .before .before .before .before .enum-told .given .1) at (c .before .before .before .before .before .before .read-head .ensures (args .text .now)) in
+    signature-fits functionNumber (args .p + 2) (length (args .kept .now)) (functionRest (args .p + 2) (drop (args .p + 2) all)) _ _ (c .before .before .function-behind .result) (c .before .before .function-behind .ensures) (omega arith) (omega (arith, h .2)) (omega arith) (omega arith) (omega arith)
 
 returns : tie.Need-returns
 unfolding parseFunction
 returns c =
-    let args = c .before .before .before .before .before .before .before .before .before .before .args in
+    λ st. let args = c .before .before .before .before .before .before .before .before .args in
     let all = view (args .text .now) (args .tokens .now) (args .kept .now) in
-    let h : Headed all 9 (args .p) (length (args .kept .now)) (heads.Wrong (c .before .q .given .0 .0)) = rw (c .before .q .given .1) at (c .before .before .before .read-head .ensures) in
+    let h : Headed all Function (args .p) (length (args .kept .now)) (heads.Wrong (c .before .q .given .0 .0)) = rw (c .before .q .given .1) at (c .before .before .before .read-head .ensures (args .text .now)) in
     refused-parsed (refused-plain (h (args .first) functionRest)) refl
 
 same-length : tie.Need-same-length
 same-length c = search needs
 
-same-length-2 : tie.Need-same-length-2
-same-length-2 c = search needs
-
 returns-2 : tie.Need-returns-2
 unfolding parseFunction
 returns-2 c =
-    let args = c .before .before .before .before .before .before .before .before .before .before .before .before .before .before .before .before .before .args in
+    λ st. let args = c .before .before .before .before .before .before .before .before .before .before .before .before .args in
     let all = view (args .text .now) (args .tokens .now) (args .kept .now) in
-    let h : Headed all 9 (args .p) (length (args .kept .now)) heads.Named = rw (c .before .before .before .before .before .before .before .before .enum-told .given .1) at (c .before .before .before .before .before .before .before .before .before .before .read-head .ensures) in
-    signature-parsed all 9 (args .first) (args .p) functionRest (length (args .kept .now)) h 2 (args .i) (args .a) (c .before .before .before .before .before .before .function-behind .result) (c .before .before .before .before .before .before .function-behind .ensures) (c .before .before .put-signature .ensures)
+    let h : Headed all Function (args .p) (length (args .kept .now)) heads.Named = rw (c .before .before .before .before .before .enum-told .given .1) at (c .before .before .before .before .before .before .before .read-head .ensures (args .text .now)) in
+    signature-parsed all Function (args .first) (args .p) functionRest (length (args .kept .now)) h functionNumber (args .i) (args .a) (c .before .before .before .function-behind .result) (c .before .before .before .function-behind .ensures) (c .signed .ensures)
 
 pub parse-function-spec : {M : Type 1} → statement M
 parse-function-spec =
@@ -71,9 +71,8 @@ parse-function-spec =
     enum-told
     add-function-behind
     function-behind-requires
-    add-put-signature
-    put-signature-requires
+    add-signed
+    signed-requires
     returns
     same-length
-    same-length-2
     returns-2)

@@ -1,5 +1,5 @@
 use mathlib.Core.Path.{refl, _∙_}
-use Rattle.statements.proofs.At.{kind-is}
+use Rattle.lists.proofs.At.{kind-is}
 use Rattle.definitions.proofs.MacroLaws.{none-declared}
 use borrow.Author.Needs.{needs}
 use Rattle.definitions.proofs.macros.declared_args.Statement.{statement}

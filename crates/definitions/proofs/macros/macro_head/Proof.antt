@@ -1,7 +1,7 @@
 use mathlib.Core.Path.{refl, sym, _∙_}
 use native.Mathlib.Omega.{arith}
 use Rattle.tokens.specs.Token.{view}
-use Rattle.statements.proofs.At.{kind-is}
+use Rattle.lists.proofs.At.{kind-is}
 use Rattle.definitions.proofs.MacroLaws.{head-refused, no-equals, head-read}
 use borrow.Author.Needs.{needs}
 use Rattle.definitions.proofs.macros.macro_head.Statement.{statement}

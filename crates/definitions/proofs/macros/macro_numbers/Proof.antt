@@ -1,3 +1,4 @@
+use mathlib.Core.List.{[]}
 use native.Mathlib.Omega.{arith}
 use Rattle.tokens.specs.Token.{view}
 use Rattle.definitions.proofs.MacroLaws.{takes-refused, returns-refused, both-read}
@@ -15,7 +16,7 @@ enum-known-takes : tie.Need-enum-known-takes
 enum-known-takes c = search needs
 
 takes-or-returns-requires-2 : tie.Need-takes-or-returns-requires-2
-takes-or-returns-requires-2 c κs = let h = rw (c .before .takes .given .1) at (c .before .before .before .takes-or-returns .ensures .within) in (record { numbered = c .before .before .before .before .before .before .before .pre .numbered; few = c .before .before .before .before .before .before .before .pre .few; inside = h .1 }, omega arith)
+takes-or-returns-requires-2 c κs = let h = rw (c .before .takes .given .1) at (c .before .before .before .takes-or-returns .ensures [] .within) in (record { list = c .before .before .before .before .before .before .pre .list; inside = h .1 }, omega arith)
 
 enum-known-d : tie.Need-enum-known-d
 enum-known-d c = search needs
@@ -24,13 +25,13 @@ enum-known-returns : tie.Need-enum-known-returns
 enum-known-returns c = search needs
 
 returns : tie.Need-returns
-returns c = takes-refused (view (c .before .before .before .before .before .before .before .args .text .now) (c .before .before .before .before .before .before .before .args .tokens .now) (c .before .before .before .before .before .before .before .args .kept .now)) (rw (c .before .c .given .1) at (c .before .before .before .takes-or-returns .ensures))
+returns c = λ text. takes-refused (view text (c .before .before .before .before .before .before .args .tokens .now) (c .before .before .before .before .before .before .args .kept .now)) (rw (c .before .c .given .1) at (c .before .before .before .takes-or-returns .ensures text))
 
 returns-2 : tie.Need-returns-2
-returns-2 c = returns-refused (view (c .before .before .before .before .before .before .before .before .before .before .before .args .text .now) (c .before .before .before .before .before .before .before .before .before .before .before .args .tokens .now) (c .before .before .before .before .before .before .before .before .before .before .before .args .kept .now)) (rw (c .before .before .before .before .before .takes .given .1) at (c .before .before .before .before .before .before .before .takes-or-returns .ensures)) (rw (c .before .d .given .1) at (c .before .before .before .takes-or-returns2 .ensures))
+returns-2 c = λ text. returns-refused (view text (c .before .before .before .before .before .before .before .before .before .before .args .tokens .now) (c .before .before .before .before .before .before .before .before .before .before .args .kept .now)) (rw (c .before .before .before .before .before .takes .given .1) at (c .before .before .before .before .before .before .before .takes-or-returns .ensures text)) (rw (c .before .d .given .1) at (c .before .before .before .takes-or-returns2 .ensures text))
 
 returns-3 : tie.Need-returns-3
-returns-3 c = both-read (view (c .before .before .before .before .before .before .before .before .before .before .before .args .text .now) (c .before .before .before .before .before .before .before .before .before .before .before .args .tokens .now) (c .before .before .before .before .before .before .before .before .before .before .before .args .kept .now)) (rw (c .before .before .before .before .before .takes .given .1) at (c .before .before .before .before .before .before .before .takes-or-returns .ensures)) (rw (c .before .returns .given .1) at (c .before .before .before .takes-or-returns2 .ensures))
+returns-3 c = λ text. both-read (view text (c .before .before .before .before .before .before .before .before .before .before .args .tokens .now) (c .before .before .before .before .before .before .before .before .before .before .args .kept .now)) (rw (c .before .before .before .before .before .takes .given .1) at (c .before .before .before .before .before .before .before .takes-or-returns .ensures text)) (rw (c .before .returns .given .1) at (c .before .before .before .takes-or-returns2 .ensures text))
 
 pub macro-numbers-spec : {M : Type 1} → statement M
 macro-numbers-spec =

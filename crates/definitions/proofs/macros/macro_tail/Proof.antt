@@ -16,8 +16,8 @@ enum-known-takes c = search needs
 
 parse-body-requires : tie.Need-parse-body-requires
 parse-body-requires c κs =
-    let h = rw (c .before .before .before .takes .given .1) at (c .before .before .before .before .before .macro-numbers .ensures .within) in
-    record { numbered = c .before .before .before .before .before .before .before .before .before .before .before .before .pre .0 .numbered; few = c .before .before .before .before .before .before .before .before .before .before .before .before .pre .0 .few; inside = h .1; statements = omega arith; arguments = omega (arith, c .before .before .before .before .before .before .before .before .before .before .before .before .pre .1 .1); statementsBefore = c .before .before .before .before .before .before .before .before .before .before .before .before .pre .0 .statementsBefore; argumentsBefore = c .before .before .before .before .before .before .before .before .before .before .before .before .pre .0 .argumentsBefore }
+    let h = rw (c .before .before .before .takes .given .1) at (c .before .before .before .before .before .macro-numbers .ensures (c .before .before .before .before .before .before .before .before .before .before .before .args .text .now) .within) in
+    record { list = c .before .before .before .before .before .before .before .before .before .before .before .pre .0 .list; inside = h .1; statements = omega arith; arguments = omega (arith, c .before .before .before .before .before .before .before .before .before .before .before .pre .1); statementsBefore = c .before .before .before .before .before .before .before .before .before .before .before .pre .0 .statementsBefore; argumentsBefore = c .before .before .before .before .before .before .before .before .before .before .before .pre .0 .argumentsBefore }
 
 enum-known-d : tie.Need-enum-known-d
 enum-known-d c = search needs
@@ -25,19 +25,8 @@ enum-known-d c = search needs
 enum-known-t : tie.Need-enum-known-t
 enum-known-t c = search needs
 
-put-macro-requires : tie.Need-put-macro-requires
-put-macro-requires c κs =
-    let h = rw (c .before .before .before .before .before .before .before .before .before .before .before .before .takes .given .1) at (c .before .before .before .before .before .before .before .before .before .before .before .before .before .before .macro-numbers .ensures .within) in
-    let t = rw (c .before .before .t .given .1) at (c .before .before .before .before .before .before .before .before .parse-body .ensures .within) in
-    let few = c .before .before .before .before .before .before .before .before .before .before .before .before .before .before .before .before .before .before .before .before .before .pre .0 .few in
-    let inside = c .before .before .before .before .before .before .before .before .before .before .before .before .before .before .before .before .before .before .before .before .before .pre .0 .inside in
-    let begun = c .before .before .before .before .before .before .before .before .before .before .before .before .before .before .before .before .before .before .before .before .before .pre .0 .begun in
-    let named = c .before .before .before .before .before .before .before .before .before .before .before .before .before .before .before .before .before .before .before .before .before .pre .1 .0 in
-    let counted = c .before .before .before .before .before .before .before .before .before .before .before .before .before .before .before .before .before .before .before .before .before .pre .1 .1 in
-    record { begun = omega arith; placed = omega arith; arguments = omega arith; at = omega arith; statements = omega arith; statementsBefore = c .before .before .before .before .before .before .before .before .before .before .before .before .before .before .before .before .before .before .before .before .before .pre .0 .statementsBefore; argumentsBefore = c .before .before .before .before .before .before .before .before .before .before .before .before .before .before .before .before .before .before .before .before .before .pre .0 .argumentsBefore }
-
 returns : tie.Need-returns
-returns c = numbers-are-refused (view (c .before .before .before .before .before .before .before .before .before .before .args .text .now) (c .before .before .before .before .before .before .before .before .before .before .args .tokens .now) (c .before .before .before .before .before .before .before .before .before .before .args .kept .now)) (rw (c .before .c .given .1) at (c .before .before .before .macro-numbers .ensures))
+returns c = numbers-are-refused (view (c .before .before .before .before .before .before .before .before .before .args .text .now) (c .before .before .before .before .before .before .before .before .before .args .tokens .now) (c .before .before .before .before .before .before .before .before .before .args .kept .now)) (rw (c .before .c .given .1) at (c .before .before .before .macro-numbers .ensures (c .before .before .before .before .before .before .before .before .before .args .text .now)))
 
 same-length : tie.Need-same-length
 same-length c = search needs
@@ -46,7 +35,7 @@ same-length-2 : tie.Need-same-length-2
 same-length-2 c = search needs
 
 returns-2 : tie.Need-returns-2
-returns-2 c = body-is-refused (view (c .before .before .before .before .before .before .before .before .before .before .before .before .before .before .before .before .before .before .before .before .args .text .now) (c .before .before .before .before .before .before .before .before .before .before .before .before .before .before .before .before .before .before .before .before .args .tokens .now) (c .before .before .before .before .before .before .before .before .before .before .before .before .before .before .before .before .before .before .before .before .args .kept .now)) (rw (c .before .before .before .before .before .before .before .before .before .before .before .takes .given .1) at (c .before .before .before .before .before .before .before .before .before .before .before .before .before .macro-numbers .ensures)) (rw (c .before .d .given .1) at (c .before .before .before .before .before .before .before .parse-body .ensures))
+returns-2 c = body-is-refused (view (c .before .before .before .before .before .before .before .before .before .before .before .before .before .before .before .before .before .before .before .args .text .now) (c .before .before .before .before .before .before .before .before .before .before .before .before .before .before .before .before .before .before .before .args .tokens .now) (c .before .before .before .before .before .before .before .before .before .before .before .before .before .before .before .before .before .before .before .args .kept .now)) (rw (c .before .before .before .before .before .before .before .before .before .before .before .takes .given .1) at (c .before .before .before .before .before .before .before .before .before .before .before .before .before .macro-numbers .ensures (c .before .before .before .before .before .before .before .before .before .before .before .before .before .before .before .before .before .before .before .args .text .now))) (rw (c .before .d .given .1) at (c .before .before .before .before .before .before .before .parse-body .ensures))
 
 same-length-3 : tie.Need-same-length-3
 same-length-3 c = search needs
@@ -54,11 +43,8 @@ same-length-3 c = search needs
 same-length-4 : tie.Need-same-length-4
 same-length-4 c = search needs
 
-same-length-5 : tie.Need-same-length-5
-same-length-5 c = search needs
-
 returns-3 : tie.Need-returns-3
-returns-3 c = tail-read (view (c .before .before .before .before .before .before .before .before .before .before .before .before .before .before .before .before .before .before .before .before .before .before .before .before .args .text .now) (c .before .before .before .before .before .before .before .before .before .before .before .before .before .before .before .before .before .before .before .before .before .before .before .before .args .tokens .now) (c .before .before .before .before .before .before .before .before .before .before .before .before .before .before .before .before .before .before .before .before .before .before .before .before .args .kept .now)) (rw (c .before .before .before .before .before .before .before .before .before .before .before .before .before .before .before .takes .given .1) at (c .before .before .before .before .before .before .before .before .before .before .before .before .before .before .before .before .before .macro-numbers .ensures)) (rw (c .before .before .before .before .before .t .given .1) at (c .before .before .before .before .before .before .before .before .before .before .before .parse-body .ensures)) (c .before .before .put-macro .ensures)
+returns-3 c = tail-read (view (c .before .before .before .before .before .before .before .before .before .before .before .before .before .before .before .before .before .before .before .args .text .now) (c .before .before .before .before .before .before .before .before .before .before .before .before .before .before .before .before .before .before .before .args .tokens .now) (c .before .before .before .before .before .before .before .before .before .before .before .before .before .before .before .before .before .before .before .args .kept .now)) (rw (c .before .before .before .before .before .before .before .before .before .before .before .takes .given .1) at (c .before .before .before .before .before .before .before .before .before .before .before .before .before .macro-numbers .ensures (c .before .before .before .before .before .before .before .before .before .before .before .before .before .before .before .before .before .before .before .args .text .now))) (rw (c .before .t .given .1) at (c .before .before .before .before .before .before .before .parse-body .ensures))
 
 pub macro-tail-spec : {M : Type 1} → statement M
 macro-tail-spec =
@@ -70,12 +56,10 @@ macro-tail-spec =
     parse-body-requires
     enum-known-d
     enum-known-t
-    put-macro-requires
     returns
     same-length
     same-length-2
     returns-2
     same-length-3
     same-length-4
-    same-length-5
     returns-3)

@@ -20,7 +20,7 @@ outputs-behind-requires c κs =
     let args = c .before .before .before .before .before .before .before .before .before .before .before .before .args in
     let all = view (args .text .now) (args .tokens .now) (args .kept .now) in
     let l = listed 0 (args .p) (length (args .kept .now)) (parseArgs (typedArgument false) (args .p) (drop (args .p) all)) (c .before .before .before .before .before .before .parse-args .ensures) (c .before .before .n .given .1) in
-    (record { numbered = c .before .before .before .before .before .before .before .before .before .before .before .before .pre .numbered; few = c .before .before .before .before .before .before .before .before .before .before .before .before .pre .few; inside = l .inside }, omega (arith, l .few, l .inside))
+    (record { list = c .before .before .before .before .before .before .before .before .before .before .before .before .pre .list; inside = l .inside }, omega (arith, l .few, l .inside))
 
 enum-known-c : tie.Need-enum-known-c
 enum-known-c c = search needs

@@ -1,7 +1,7 @@
 use mathlib.Core.Path.{sym, ap, _∙_}
 use borrow.Author.Tests.{eq-eqb, ne-eqb}
 use Rattle.tokens.specs.Byte.{allHex}
-use Rattle.tokens.proofs.ViewLaws.{view-text}
+use Rattle.tokens.proofs.TokenLaws.{view-text}
 use Rattle.grammar.specs.FileGrammar.{entryAllowed}
 use borrow.Author.Needs.{needs}
 use Rattle.definitions.proofs.table.is_entry.Statement.{statement}

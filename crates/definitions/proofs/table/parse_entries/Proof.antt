@@ -5,7 +5,7 @@ use native.Mathlib.Omega.{arith}
 use borrow.Author.Tests.{not-true, not-false}
 use lib.ListN.{length}
 use Rattle.definitions.specs.Tables.{tableSort}
-use Rattle.definitions.proofs.TableReading.{Turns, turn-done, turn-refused, turn-inside, turn-few, turn-on}
+use Rattle.definitions.proofs.TableLaws.{Turns, turn-done, turn-refused, turn-inside, turn-few, turn-on}
 use borrow.Author.Needs.{needs}
 use Rattle.definitions.proofs.table.parse_entries.Statement.{statement}
 use Rattle.definitions.proofs.table.parse_entries.Tie as tie
@@ -48,7 +48,7 @@ returns-2 c = turn-refused (c .before .before .before .before .loop .inv) (c .be
 put-entry-requires : tie.Need-put-entry-requires Inv-loop μ-loop
 put-entry-requires c κs =
     let t = c .before .before .before .before .before .loop .inv in
-    let few = c .before .before .before .before .before .before .before .before .before .before .before .pre .few in
+    let few = c .before .before .before .before .before .before .before .before .before .before .before .pre .list .few in
     (omega (arith, t .count, t .inside), omega (arith, t .inside), c .before .before .before .before .before .before .before .before .before .before .before .pre .statementsBefore, c .before .before .before .before .before .before .before .before .before .before .before .pre .argumentsBefore)
 
 text-length-requires : tie.Need-text-length-requires Inv-loop μ-loop
@@ -56,19 +56,19 @@ text-length-requires c κs = search needs
 
 add-digits : tie.Need-add-digits Inv-loop μ-loop
 add-digits c =
-    let h = turn-few (c .before .before .before .before .before .before .before .before .before .loop .inv) (c .before .before .before .before .before .before .before .before .kind-at .ensures) (c .before .before .before .before .before .before .before .if1 .left) (c .before .before .before .before .before .before .is-entry .ensures) (not-false _ (c .before .before .before .before .before .if2 .left)) (c .before .before .before .before .before .before .before .before .before .before .before .before .before .before .before .pre .lined) (c .text-length .ensures) in
+    let h = turn-few (c .before .before .before .before .before .before .before .before .before .loop .inv) (c .before .before .before .before .before .before .before .before .kind-at .ensures) (c .before .before .before .before .before .before .before .if1 .left) (c .before .before .before .before .before .before .is-entry .ensures) (not-false _ (c .before .before .before .before .before .if2 .left)) (c .before .before .before .before .before .before .before .before .before .before .before .before .before .before .before .pre .list .lined) (c .text-length .ensures) in
     omega arith
 
 add-m : tie.Need-add-m Inv-loop μ-loop
 add-m c =
     let t = c .before .before .before .before .before .before .before .before .before .loop .inv in
-    let few = c .before .before .before .before .before .before .before .before .before .before .before .before .before .before .before .pre .few in
+    let few = c .before .before .before .before .before .before .before .before .before .before .before .before .before .before .before .pre .list .few in
     omega (arith, t .count, t .inside)
 
 add-q : tie.Need-add-q Inv-loop μ-loop
 add-q c =
     let t = c .before .before .before .before .before .before .before .before .before .loop .inv in
-    let few = c .before .before .before .before .before .before .before .before .before .before .before .before .before .before .before .pre .few in
+    let few = c .before .before .before .before .before .before .before .before .before .before .before .before .before .before .before .pre .list .few in
     omega (arith, t .inside)
 
 loop-less : tie.Need-loop-less Inv-loop μ-loop
@@ -77,7 +77,7 @@ loop-less c =
     omega arith
 
 loop-again : tie.Need-loop-again Inv-loop μ-loop
-loop-again c = turn-on (c .before .before .before .before .before .before .before .before .before .loop .inv) (c .before .before .before .before .before .before .before .before .kind-at .ensures) (c .before .before .before .before .before .before .before .if1 .left) (c .before .before .before .before .before .before .is-entry .ensures) (not-false _ (c .before .before .before .before .before .if2 .left)) (c .before .before .before .before .before .before .before .before .before .before .before .before .before .before .before .pre .lined) (c .text-length .ensures) (c .before .before .before .before .before .before .before .before .before .before .entry-type .ensures) (c .before .before .before .put-entry .ensures)
+loop-again c = turn-on (c .before .before .before .before .before .before .before .before .before .loop .inv) (c .before .before .before .before .before .before .before .before .kind-at .ensures) (c .before .before .before .before .before .before .before .if1 .left) (c .before .before .before .before .before .before .is-entry .ensures) (not-false _ (c .before .before .before .before .before .if2 .left)) (c .before .before .before .before .before .before .before .before .before .before .before .before .before .before .before .pre .list .lined) (c .text-length .ensures) (c .before .before .before .before .before .before .before .before .before .before .entry-type .ensures) (c .before .before .before .put-entry .ensures)
 
 pub parse-entries-spec : {M : Type 1} → statement M
 parse-entries-spec =

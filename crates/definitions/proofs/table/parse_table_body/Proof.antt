@@ -1,8 +1,8 @@
 use mathlib.Core.Path.{refl, sym, _∙_}
 use native.Mathlib.Numerals.{add-one}
 use Rattle.tokens.specs.Token.{view}
-use Rattle.statements.proofs.At.{kind-is}
-use Rattle.definitions.proofs.TableReading.{body-unopened, body-opened}
+use Rattle.lists.proofs.At.{kind-is}
+use Rattle.definitions.proofs.TableLaws.{body-unopened, body-opened}
 use borrow.Author.Needs.{needs}
 use Rattle.definitions.proofs.table.parse_table_body.Statement.{statement}
 use Rattle.definitions.proofs.table.parse_table_body.Tie as tie

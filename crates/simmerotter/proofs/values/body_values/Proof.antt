@@ -1,4 +1,4 @@
--- `body_values`: each case by its constructor. Assumes nothing.
+
 use borrow.Author.Needs.{needs}
 use Rattle.simmerotter.proofs.values.body_values.Statement.{statement}
 use Rattle.simmerotter.proofs.values.body_values.Tie as tie
@@ -23,9 +23,6 @@ refusal-requires-3 c κs = search needs
 
 enum-known-answer-4 : tie.Need-enum-known-answer-4
 enum-known-answer-4 c = search needs
-
-cast-refusal : tie.Need-cast-refusal
-cast-refusal c = search needs
 
 refusal-requires-4 : tie.Need-refusal-requires-4
 refusal-requires-4 c κs = search needs
@@ -80,7 +77,6 @@ body-values-spec =
     enum-known-answer-3
     refusal-requires-3
     enum-known-answer-4
-    cast-refusal
     refusal-requires-4
     enum-known-answer-5
     refusal-requires-5

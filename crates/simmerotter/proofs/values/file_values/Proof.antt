@@ -1,4 +1,4 @@
--- `file_values`: each case by its constructor. Assumes nothing.
+
 use borrow.Author.Needs.{needs}
 use Rattle.simmerotter.proofs.values.file_values.Statement.{statement}
 use Rattle.simmerotter.proofs.values.file_values.Tie as tie
@@ -17,9 +17,6 @@ refusal-requires-2 c κs = search needs
 
 enum-known-answer-3 : tie.Need-enum-known-answer-3
 enum-known-answer-3 c = search needs
-
-cast-refusal : tie.Need-cast-refusal
-cast-refusal c = search needs
 
 refusal-requires-3 : tie.Need-refusal-requires-3
 refusal-requires-3 c κs = search needs
@@ -78,7 +75,6 @@ file-values-spec =
     enum-known-answer-2
     refusal-requires-2
     enum-known-answer-3
-    cast-refusal
     refusal-requires-3
     enum-known-answer-4
     refusal-requires-4

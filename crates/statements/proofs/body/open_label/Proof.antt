@@ -1,4 +1,4 @@
-use Rattle.statements.proofs.At.{test-yes, test-no}
+use Rattle.lists.proofs.At.{test-yes, test-no}
 use borrow.Author.Needs.{needs}
 use Rattle.statements.proofs.body.open_label.Statement.{statement}
 use Rattle.statements.proofs.body.open_label.Tie as tie

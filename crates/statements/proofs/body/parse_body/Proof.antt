@@ -5,8 +5,8 @@ use mathlib.Core.Logic.{⊎-elim}
 use denote.Ref.{now}
 use lib.ListN.{length}
 use Rattle.tokens.specs.Token.{view}
-use Rattle.statements.specs.declared.item.Tally.{Tally}
-use Rattle.statements.proofs.At.{kind-here, kind-inside}
+use Rattle.statements.specs.declared.item.Progress.{Progress}
+use Rattle.lists.proofs.At.{kind-here, kind-inside}
 use Rattle.statements.proofs.BodyLaws.{BodyWalk, counting-skip, counting-next, no-brace, body-starts, part-refused, label-room, main-read, label-told, brace-shut, unopened, opened-label, body-steps, Onward}
 use borrow.Author.Needs.{needs}
 use Rattle.statements.proofs.body.parse_body.Statement.{statement}
@@ -86,7 +86,7 @@ skip-requires-2 c κs =
     let w = c .before .before .before .before .before .before .before .before .before .before .before .before .before .loop in
     let v = rw (c .before .before .before .before .next .given .1) at (c .before .before .before .before .before .before .before .before .before .before .parse-items .ensures) in
     let h = counting-next (w .inv .counting) (v .within) in
-    (omega (arith, h .few, h .inside), omega (arith, h .few, h .inside, h .statements), omega arith, omega arith)
+    (omega (arith, h .list .few, h .inside), omega (arith, h .list .few, h .inside, h .statements), omega arith, omega arith)
 
 same-length-3 : tie.Need-same-length-3 Inv-loop μ-loop
 same-length-3 c = ⊎-elim (λ x. ap length (x .5) ∙ x .3 .given ∙ c .before .before .before .before .before .before .before .before .before .before .statements .given ∙ c .before .before .before .before .before .before .before .before .before .before .before .before .before .before .loop .inv .sameStatements) (λ x. ap length (x .1) ∙ c .before .before .before .before .before .before .before .before .before .before .statements .given ∙ c .before .before .before .before .before .before .before .before .before .before .before .before .before .before .loop .inv .sameStatements) (c .before .before .before .if2 .came)
@@ -115,7 +115,7 @@ open-label-requires c κs =
     let w = c .before .before .before .before .before .before .before .before .before .before .before .before .before .loop in
     let v = rw (c .before .before .before .before .next .given .1) at (c .before .before .before .before .before .before .before .before .before .before .parse-items .ensures) in
     let h = counting-next (w .inv .counting) (v .within) in
-    (h .numbered, (omega (arith, h .few, h .inside), omega (arith, h .few, h .inside, h .statements)))
+    (h .list .numbered, (omega (arith, h .list .few, h .inside), omega (arith, h .list .few, h .inside, h .statements)))
 
 enum-known-d : tie.Need-enum-known-d Inv-loop μ-loop
 enum-known-d c = search needs
@@ -154,7 +154,7 @@ loop-less c =
     let w = c .before .before .before .before .before .before .before .before .before .before .before .before .before .before .before .before .before .loop in
     let v = rw (c .before .before .before .before .before .before .before .before .next .given .1) at (c .before .before .before .before .before .before .before .before .before .before .before .before .before .before .parse-items .ensures) in
     let o = opened-label text words kept (sym (c .before .inside .given .1) ∙ c .before .before .before .open-label .ensures) in
-    let far = ap (λ (x : Tally). x .at) (o .here) in
+    let far = ap (λ (x : Progress). x .at) (o .here) in
     omega (arith, far, o .further, v .within .0)
 
 loop-again : tie.Need-loop-again Inv-loop μ-loop

@@ -3,7 +3,7 @@ use native.Mathlib.Omega.{arith}
 use denote.Ref.{now}
 use lib.ListN.{length}
 use Rattle.tokens.specs.Token.{view}
-use Rattle.tokens.proofs.ViewLaws.{view-length}
+use Rattle.tokens.proofs.TokenLaws.{view-length}
 use Rattle.statements.proofs.BodyLaws.{Walk, walk-start, walk-step, ItemsLeft, items-go-on, items-stop-label, items-stop-brace, items-turn, items-end, items-refused}
 use borrow.Author.Needs.{needs}
 use Rattle.statements.proofs.body.parse_items.Statement.{statement}
@@ -54,7 +54,7 @@ returns-2 c =
     w .inv .onward _ _ _ (items-end (a .takes) (a .wrong) (a .i) (a .a) (length kept) (view text words kept) (view-length text words kept) (stop .1) (stop .0))
 
 parse-item-requires : tie.Need-parse-item-requires Inv-loop μ-loop
-parse-item-requires c κs = (c .before .before .before .before .before .loop .inv .counting, c .before .before .before .before .kind-at .ensures)
+parse-item-requires c κs = c .before .before .before .before .before .loop .inv .counting
 
 enum-known-next : tie.Need-enum-known-next Inv-loop μ-loop
 enum-known-next c = search needs

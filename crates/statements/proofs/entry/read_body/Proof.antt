@@ -1,6 +1,7 @@
 use mathlib.Core.Path.{refl}
 use denote.Ref.{now}
-use Rattle.statements.proofs.EntryLaws.{kept-part, call-from, call-read}
+use Rattle.statements.proofs.EntryLaws.{call-from, call-read}
+use Rattle.tokens.proofs.PlaceLaws.{kept-part}
 use borrow.Author.Needs.{needs}
 use Rattle.statements.proofs.entry.read_body.Statement.{statement}
 use Rattle.statements.proofs.entry.read_body.Tie as tie

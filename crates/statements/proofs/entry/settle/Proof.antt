@@ -1,7 +1,7 @@
 use mathlib.Core.Path.{refl}
 use borrow.Author.Tests.{lt-ltb, le-ltb}
 use borrow.Author.Needs.{needs}
-use Rattle.tokens.proofs.TableLaws.{cleared-none}
+use Rattle.tokens.proofs.LentLaws.{cleared-none}
 use Rattle.statements.proofs.entry.settle.Statement.{statement}
 use Rattle.statements.proofs.entry.settle.Tie as tie
 
@@ -24,7 +24,7 @@ same-length-2 : tie.Need-same-length-2
 same-length-2 c = search needs
 
 returns : tie.Need-returns
-returns c = rw (c .before .before .before .before .before .before .before .before .before .read2 .given .1) (record { answer = rw (lt-ltb _ _ (c .before .before .before .before .before .before .before .if1 .taken)); statementTable = rw cleared-none (c .before .before .before .before .clear-both2 .ensures .0); argumentTable = rw cleared-none (c .before .before .before .before .clear-both2 .ensures .1) })
+returns c = rw (c .before .before .before .before .before .before .before .before .before .read2 .given .1) (record { answer = rw (lt-ltb _ _ (c .before .before .before .before .before .before .before .if1 .taken)); statementsHold = rw cleared-none (c .before .before .before .before .clear-both2 .ensures .0); argumentsHold = rw cleared-none (c .before .before .before .before .clear-both2 .ensures .1) })
 
 clear-both-requires-3 : tie.Need-clear-both-requires-3
 clear-both-requires-3 c κs = search needs
@@ -36,7 +36,7 @@ same-length-4 : tie.Need-same-length-4
 same-length-4 c = search needs
 
 returns-2 : tie.Need-returns-2
-returns-2 c = rw (c .before .before .before .before .before .before .before .before .before .before .read2 .given .1) (record { answer = rw (le-ltb _ _ (c .before .before .before .before .before .before .before .before .if1 .left), lt-ltb _ _ (c .before .before .before .before .before .before .before .if2 .taken)); statementTable = rw cleared-none (c .before .before .before .before .clear-both3 .ensures .0); argumentTable = rw cleared-none (c .before .before .before .before .clear-both3 .ensures .1) })
+returns-2 c = rw (c .before .before .before .before .before .before .before .before .before .before .read2 .given .1) (record { answer = rw (le-ltb _ _ (c .before .before .before .before .before .before .before .before .if1 .left), lt-ltb _ _ (c .before .before .before .before .before .before .before .if2 .taken)); statementsHold = rw cleared-none (c .before .before .before .before .clear-both3 .ensures .0); argumentsHold = rw cleared-none (c .before .before .before .before .clear-both3 .ensures .1) })
 
 clear-behind-requires : tie.Need-clear-behind-requires
 clear-behind-requires c κs = search needs
@@ -54,7 +54,7 @@ same-length-6 : tie.Need-same-length-6
 same-length-6 c = search needs
 
 returns-3 : tie.Need-returns-3
-returns-3 c = rw (c .before .before .before .before .before .before .before .before .read .given .1) (record { answer = refl; statementTable = rw cleared-none (c .before .before .before .before .clear-both .ensures .0); argumentTable = rw cleared-none (c .before .before .before .before .clear-both .ensures .1) })
+returns-3 c = rw (c .before .before .before .before .before .before .before .before .read .given .1) (record { answer = refl; statementsHold = rw cleared-none (c .before .before .before .before .clear-both .ensures .0); argumentsHold = rw cleared-none (c .before .before .before .before .clear-both .ensures .1) })
 
 same-length-7 : tie.Need-same-length-7
 same-length-7 c = search needs
@@ -63,7 +63,7 @@ same-length-8 : tie.Need-same-length-8
 same-length-8 c = search needs
 
 returns-4 : tie.Need-returns-4
-returns-4 c = rw (c .before .before .before .before .before .before .before .before .before .before .before .before .read2 .given .1) (record { answer = rw (le-ltb _ _ (c .before .before .before .before .before .before .before .before .before .before .if1 .left), le-ltb _ _ (c .before .before .before .before .before .before .before .before .before .if2 .left), c .plain-length .ensures); statementTable = c .before .before .before .before .before .before .before .clear-behind .ensures; argumentTable = c .before .before .before .clear-behind2 .ensures })
+returns-4 c = rw (c .before .before .before .before .before .before .before .before .before .before .before .before .read2 .given .1) (record { answer = rw (le-ltb _ _ (c .before .before .before .before .before .before .before .before .before .before .if1 .left), le-ltb _ _ (c .before .before .before .before .before .before .before .before .before .if2 .left), c .plain-length .ensures); statementsHold = c .before .before .before .before .before .before .before .clear-behind .ensures; argumentsHold = c .before .before .before .clear-behind2 .ensures })
 
 pub settle-spec : {M : Type 1} → statement M
 settle-spec =

@@ -2,7 +2,7 @@ use denote.Ref.{now}
 use Rattle.statements.proofs.ItemLaws.{overflows, fits-well}
 use borrow.Author.Tests.{not-true, not-false}
 use Rattle.tokens.proofs.Laws.{said-no, said-yes}
-use Rattle.statements.proofs.At.{test-yes, test-no}
+use Rattle.lists.proofs.At.{test-yes, test-no}
 use borrow.Author.Needs.{needs}
 use Rattle.statements.proofs.item.opcode_item.Statement.{statement}
 use Rattle.statements.proofs.item.opcode_item.Tie as tie

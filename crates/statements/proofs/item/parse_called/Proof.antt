@@ -11,12 +11,12 @@ add-p c = search needs
 parse-args-requires : tie.Need-parse-args-requires
 parse-args-requires c κs =
     let g = c .before .before .before .before .before .before .before .pre in
-    (record { numbered = g .0 .numbered; few = g .0 .few; inside = omega (arith, g .1) }, omega arith)
+    (record { list = g .0 .list; inside = omega (arith, g .1) }, omega arith)
 
 put-called-requires : tie.Need-put-called-requires
 put-called-requires c κs =
     let g = c .before .before .before .before .before .before .before .before .before .before .before .pre .0 in
-    (record { at = omega arith; statements = omega arith; arguments = omega arith; statementsBefore = g .statementsBefore; argumentsBefore = g .argumentsBefore; end = omega arith; own = omega arith; place = omega arith }, listed-inside (c .before .before .before .before .before .before .before .before .before .before .before .args .s) _ (c .before .before .before .parse-args .ensures) (g .few) (omega arith))
+    (record { at = omega arith; statements = omega arith; arguments = omega arith; statementsBefore = g .statementsBefore; argumentsBefore = g .argumentsBefore; end = omega arith; own = omega arith; place = omega arith }, listed-inside (c .before .before .before .before .before .before .before .before .before .before .before .args .s) _ (c .before .before .before .parse-args .ensures) (g .list .few) (omega arith))
 
 same-length : tie.Need-same-length
 same-length c = search needs

@@ -5,7 +5,8 @@ use lib.ListN.{length}
 use Rattle.grammar.specs.Reading.{anInvocation, aBuiltin}
 use Rattle.grammar.specs.Records.{simpleRecords}
 use Rattle.statements.specs.Answers.{simpleAnswer, simpleArguments}
-use Rattle.statements.specs.Item.{OneRead, PushRead, RefusedRead}
+use Rattle.grammar.specs.Written.{RefusedRead}
+use Rattle.statements.specs.Item.{OneRead, PushRead}
 use Rattle.statements.proofs.Pieces.{refused-parsed}
 use Rattle.statements.proofs.StatementLaws.{one-parsed, push-parsed, list-parsed}
 use borrow.Author.Needs.{needs}
@@ -21,7 +22,7 @@ enum-known-x c = search needs
 put-one-requires : tie.Need-put-one-requires
 put-one-requires c κs =
     let h : OneRead (c .before .before .before .before .before .before .before .before .before .before .args .s .at) _ _ _ = rw (c .before .before .x .given .1) at (c .before .before .before .before .one-item .ensures) in
-    let g = c .before .before .before .before .before .before .before .before .before .before .pre .0 in
+    let g = c .before .before .before .before .before .before .before .before .before .before .pre in
     record { at = omega arith; statements = omega arith; arguments = omega arith; statementsBefore = g .statementsBefore; argumentsBefore = g .argumentsBefore; end = omega arith; own = omega arith; place = omega arith }
 
 enum-told : tie.Need-enum-told
@@ -30,7 +31,7 @@ enum-told c = search needs
 put-push-requires : tie.Need-put-push-requires
 put-push-requires c κs =
     let h : PushRead (c .before .before .before .before .before .before .before .before .before .args .s .at) _ _ _ = rw (c .before .enum-told .given .1) at (c .before .before .before .one-item .ensures) in
-    let g = c .before .before .before .before .before .before .before .before .before .pre .0 in
+    let g = c .before .before .before .before .before .before .before .before .before .pre in
     search needs
 
 enum-told-2 : tie.Need-enum-told-2
@@ -39,7 +40,7 @@ enum-told-2 c = search needs
 parse-called-requires : tie.Need-parse-called-requires
 parse-called-requires c κs =
     let h = rw (c .before .before .enum-told2 .given .1) at (c .before .before .before .before .one-item .ensures) in
-    (c .before .before .before .before .before .before .before .before .before .before .pre .0, h .0)
+    (c .before .before .before .before .before .before .before .before .before .before .pre, h .0)
 
 enum-told-3 : tie.Need-enum-told-3
 enum-told-3 c = search needs
@@ -47,7 +48,7 @@ enum-told-3 c = search needs
 parse-called-requires-2 : tie.Need-parse-called-requires-2
 parse-called-requires-2 c κs =
     let h = rw (c .before .before .enum-told3 .given .1) at (c .before .before .before .before .one-item .ensures) in
-    (c .before .before .before .before .before .before .before .before .before .before .pre .0, h .0)
+    (c .before .before .before .before .before .before .before .before .before .before .pre, h .0)
 
 enum-known-c : tie.Need-enum-known-c
 enum-known-c c = search needs
@@ -96,7 +97,7 @@ returns-5 : tie.Need-returns-5
 returns-5 c =
     let a = c .before .before .before .before .before .before .before .before .before .args in
     let h : RefusedRead _ (c .before .c .given .0 .0) (c .before .c .given .0 .1 .0) = rw (c .before .c .given .1) at (c .before .before .before .one-item .ensures) in
-    refused-parsed simpleAnswer simpleRecords simpleArguments (a .i) (a .a) (h .why) (h .place) (h .is) refl (h .number) (h .cursor)
+    refused-parsed simpleAnswer simpleRecords simpleArguments (a .i) (a .a) (h .why) (h .place) (h .is) refl (h .numbered) (h .cursor)
 
 pub parse-item-spec : {M : Type 1} → statement M
 parse-item-spec =

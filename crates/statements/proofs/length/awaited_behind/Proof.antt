@@ -2,9 +2,9 @@ use borrow.Author.Tests.{not-true, not-false}
 use denote.Ref.{now}
 use mathlib.Core.Path.{sym, _∙_}
 use native.Mathlib.Omega.{arith}
-use Rattle.tokens.proofs.ViewLaws.{view-extra}
+use Rattle.tokens.proofs.TokenLaws.{view-extra}
 use Rattle.statements.specs.Length.{awaitedBehind}
-use Rattle.statements.proofs.At.{kind-here, test-yes, test-no}
+use Rattle.lists.proofs.At.{kind-here, test-yes, test-no}
 use Rattle.statements.proofs.LengthLaws.{push-some}
 use borrow.Author.Needs.{needs}
 use Rattle.statements.proofs.length.awaited_behind.Statement.{statement}

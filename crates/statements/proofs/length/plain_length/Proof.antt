@@ -8,7 +8,7 @@ use denote.Ref.{now}
 use lib.ListN.{length, drop}
 use Rattle.tokens.specs.Token.{view}
 use Rattle.statements.specs.Length.{lengthOn, lengthFrom}
-use Rattle.statements.proofs.At.{kind-here, test-no}
+use Rattle.lists.proofs.At.{kind-here, test-no}
 use Rattle.statements.proofs.LengthLaws.{plain-some, length-ends, length-none, length-goes}
 use Rattle.statements.proofs.length.plain_length.Statement.{statement}
 use Rattle.statements.proofs.length.plain_length.Tie as tie
@@ -56,7 +56,7 @@ token-bytes-requires : tie.Need-token-bytes-requires Inv-loop μ-loop
 token-bytes-requires c κs = (search needs, (c .before .before .before .kind-at .ensures, c .before .before .before .before .loop .inv .1))
 
 add-bytes : tie.Need-add-bytes Inv-loop μ-loop
-add-bytes c = omega (arith, c .token-bytes .ensures .1, c .before .before .before .before .before .loop .inv .2, c .before .before .before .before .before .loop .inv .3, c .before .before .before .before .before .before .before .before .before .pre .few)
+add-bytes c = omega (arith, c .token-bytes .ensures .1, c .before .before .before .before .before .loop .inv .2, c .before .before .before .before .before .loop .inv .3, c .before .before .before .before .before .before .before .before .before .pre .list .few)
 
 awaited-behind-requires : tie.Need-awaited-behind-requires Inv-loop μ-loop
 awaited-behind-requires c κs = (search needs, c .before .before .before .before .kind-at .ensures)
@@ -65,7 +65,7 @@ takes-behind-requires : tie.Need-takes-behind-requires Inv-loop μ-loop
 takes-behind-requires c κs = search needs
 
 add-p-2 : tie.Need-add-p-2 Inv-loop μ-loop
-add-p-2 c = omega (arith, c .before .before .before .before .before .before .before .loop .inv .3, c .before .before .before .before .before .before .before .before .before .before .before .pre .few)
+add-p-2 c = omega (arith, c .before .before .before .before .before .before .before .loop .inv .3, c .before .before .before .before .before .before .before .before .before .before .before .pre .list .few)
 
 loop-less : tie.Need-loop-less Inv-loop μ-loop
 loop-less c =

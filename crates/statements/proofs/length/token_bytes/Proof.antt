@@ -4,10 +4,10 @@ use native.Mathlib.Numerals.{add-one}
 use native.Mathlib.Omega.{arith}
 use borrow.Author.Tests.{ne-eqb}
 use Rattle.tokens.specs.Literal.{literalValue}
-use Rattle.tokens.proofs.ViewLaws.{view-text}
-use Rattle.tokens.proofs.Value.{significant-between}
+use Rattle.tokens.proofs.TokenLaws.{view-text}
+use Rattle.tokens.proofs.LiteralLaws.{significant-between}
 use Rattle.statements.specs.Length.{tokenBytes}
-use Rattle.statements.proofs.At.{kind-here, test-yes, test-no}
+use Rattle.lists.proofs.At.{kind-here, test-yes, test-no}
 use borrow.Author.Needs.{needs}
 use Rattle.statements.proofs.length.token_bytes.Statement.{statement}
 use Rattle.statements.proofs.length.token_bytes.Tie as tie

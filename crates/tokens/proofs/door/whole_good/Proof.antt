@@ -1,8 +1,5 @@
-use Prim.Native.Nat.{_/_, _%_, _<_, _≤_}
+use Prim.Native.Nat.{_/_, _<_, _≤_}
 use native.Mathlib.Nat.{le-of-eq}
-use mathlib.Core.Path.{_≡_, refl}
-use mathlib.Core.Bool.{Bool, true, false, _&&_}
-use lib.Dec.{leb, eqb}
 use lib.ListN.{length}
 use Rattle.tokens.proofs.Laws.{pos-of-ne, tests}
 use Rattle.tokens.specs.WellFormed.{wholeGood}
@@ -15,32 +12,27 @@ returns c =
     let t0 = c .if1 .taken in
     simp tests
 
--- one test of three that fails is enough
-none-of : (b d : Bool) → false ≡ (b && false && d)
-none-of true d = refl
-none-of false d = refl
-
 returns-2 : tie.Need-returns-2
 unfolding wholeGood
 returns-2 c =
+    let t0 = c .if2 .taken in
     let t1 = c .before .if1 .left in
-    let none : length (c .before .before .args .tokens .now) / 4 ≤ 0 = le-of-eq (c .if2 .taken) in
-    let words = c .before .before .args .tokens .now in
-    simp tests (none-of (eqb (length words % 4) 0) (leb (length words / 4) 65536))
+    simp tests
 
 returns-3 : tie.Need-returns-3
 unfolding wholeGood
 returns-3 c =
-    let t0 = c .if3 .taken in
+    let t1 = c .before .if2 .left in
     let t2 = c .before .before .if1 .left in
+    let none : length (c .before .before .before .args .tokens .now) / 4 ≤ 0 = le-of-eq (c .if3 .taken) in
     simp tests
 
 returns-4 : tie.Need-returns-4
 unfolding wholeGood
 returns-4 c =
-    let t1 = c .if3 .left in
+    let t1 = c .before .if2 .left in
     let t2 = c .before .before .if1 .left in
-    let some : 0 < length (c .before .before .before .args .tokens .now) / 4 = pos-of-ne (c .before .if2 .left) in
+    let some : 0 < length (c .before .before .before .args .tokens .now) / 4 = pos-of-ne (c .if3 .left) in
     simp tests
 
 pub whole-good-spec : {M : Type 1} → statement M

@@ -6,7 +6,7 @@ use native.Mathlib.Omega.{arith}
 use lib.ListN.{length, drop}
 use borrow.Author.Needs.{needs}
 use Rattle.tokens.specs.Byte.{allHex}
-use Rattle.tokens.proofs.Value.{hex-seen, hex-end}
+use Rattle.tokens.proofs.LiteralLaws.{hex-seen, hex-end}
 use Rattle.tokens.proofs.literal.all_hex.Statement.{statement}
 use Rattle.tokens.proofs.literal.all_hex.Tie as tie
 

@@ -2,7 +2,7 @@ use mathlib.Core.Path.{sym}
 use native.Mathlib.Omega.{arith}
 use lib.Count.{leading-le}
 use borrow.Author.Needs.{needs}
-use Rattle.tokens.proofs.Value.{significant-zero, from-leading}
+use Rattle.tokens.proofs.LiteralLaws.{significant-zero, from-leading}
 use Rattle.tokens.proofs.literal.bytes_of.Statement.{statement}
 use Rattle.tokens.proofs.literal.bytes_of.Tie as tie
 

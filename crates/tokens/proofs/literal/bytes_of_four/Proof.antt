@@ -4,7 +4,7 @@ use lib.ListN.{drop}
 use borrow.Author.Needs.{needs}
 use Rattle.tokens.specs.Byte.{valueAfter}
 use Rattle.tokens.specs.Literal.{literalValue}
-use Rattle.tokens.proofs.Value.{significant-between, quarter-some, quarter-none}
+use Rattle.tokens.proofs.LiteralLaws.{significant-between, quarter-some, quarter-none}
 use Rattle.tokens.proofs.literal.bytes_of_four.Statement.{statement}
 use Rattle.tokens.proofs.literal.bytes_of_four.Tie as tie
 

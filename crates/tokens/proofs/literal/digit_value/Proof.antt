@@ -1,7 +1,7 @@
 use native.Mathlib.Omega.{arith}
 use borrow.Author.Needs.{needs}
 use Rattle.tokens.specs.Byte.{digit}
-use Rattle.tokens.proofs.Value.{inside, under, over}
+use Rattle.tokens.proofs.LiteralLaws.{inside, under, over}
 use Rattle.tokens.proofs.literal.digit_value.Statement.{statement}
 use Rattle.tokens.proofs.literal.digit_value.Tie as tie
 

@@ -2,7 +2,7 @@ use mathlib.Core.Path.{sym, ap, _∙_}
 use native.Mathlib.Omega.{arith}
 use borrow.Author.Needs.{needs}
 use Rattle.tokens.specs.Byte.{allHex}
-use Rattle.tokens.proofs.Value.{rest-is, not-short, not-long, not-zero, not-x, by-digits}
+use Rattle.tokens.proofs.LiteralLaws.{rest-is, not-short, not-long, not-zero, not-x, by-digits}
 use Rattle.tokens.proofs.literal.is_literal.Statement.{statement}
 use Rattle.tokens.proofs.literal.is_literal.Tie as tie
 

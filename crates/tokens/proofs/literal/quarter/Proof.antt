@@ -4,7 +4,7 @@ use native.Mathlib.Omega.{arith}
 use lib.ListN.{getD, length, drop}
 use borrow.Author.Needs.{needs}
 use Rattle.tokens.specs.Byte.{valueAfter}
-use Rattle.tokens.proofs.Value.{digit-lt, room, value-step, value-end, step-lt}
+use Rattle.tokens.proofs.LiteralLaws.{digit-lt, room, value-step, value-end, step-lt}
 use Rattle.tokens.proofs.literal.quarter.Statement.{statement}
 use Rattle.tokens.proofs.literal.quarter.Tie as tie
 

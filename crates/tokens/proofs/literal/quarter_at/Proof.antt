@@ -2,7 +2,7 @@ use mathlib.Core.Path.{_∙_}
 use native.Mathlib.Omega.{arith}
 use lib.ListN.{length-take}
 use borrow.Author.Needs.{needs}
-use Rattle.tokens.proofs.Value.{quarter-value}
+use Rattle.tokens.proofs.LiteralLaws.{quarter-value}
 use Rattle.tokens.proofs.literal.quarter_at.Statement.{statement}
 use Rattle.tokens.proofs.literal.quarter_at.Tie as tie
 

@@ -2,7 +2,7 @@
 use mathlib.Core.Path.{sym, ap, _∙_}
 use Rattle.tokens.specs.Byte.{valueAfter}
 use Rattle.tokens.specs.Literal.{significant}
-use Rattle.tokens.proofs.Value.{rest-is, value-uncut}
+use Rattle.tokens.proofs.LiteralLaws.{rest-is, value-uncut}
 use native.Mathlib.Omega.{arith}
 use borrow.Author.Needs.{needs}
 use Rattle.tokens.proofs.literal.significant_bytes.Statement.{statement}

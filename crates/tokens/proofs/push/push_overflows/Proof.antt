@@ -4,7 +4,7 @@ use mathlib.Core.Path.{_∙_, ap₂}
 use lib.Dec.{leb}
 use borrow.Author.Needs.{needs}
 use Rattle.tokens.specs.Push.{fits}
-use Rattle.tokens.proofs.Value.{ltb-not-leb}
+use Rattle.tokens.proofs.LiteralLaws.{ltb-not-leb}
 use Rattle.tokens.proofs.push.push_overflows.Statement.{statement}
 use Rattle.tokens.proofs.push.push_overflows.Tie as tie
 

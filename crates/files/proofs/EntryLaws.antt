@@ -1,0 +1,184 @@
+-- Laws of the entry: the kept numbers as a part of the kept list, tables that hold records and zeros, and each way out. Assumes nothing.
+use Prim.Native.Nat.{ℕ, _+_, _-_, _/_, _≤_, _<_}
+use mathlib.Core.Path.{_≡_, refl, sym, ap, _∙_}
+use mathlib.Core.Bool.{true}
+use mathlib.Core.List.{List, [], flatten}
+use native.Mathlib.Omega.{arith}
+use native.Mathlib.Nat.{sub-zero}
+use borrow.Author.Tests.{lt-ltb, le-ltb}
+use lib.ListN.{length, replicate, take}
+use Rattle.tokens.specs.Number.{definitionWidth, statementWidth, argumentWidth}
+use Rattle.tokens.specs.Lent.{clearedBehind}
+use Rattle.tokens.specs.Token.{view}
+use Rattle.tokens.specs.Kept.{keptOf}
+use Rattle.tokens.specs.Door.{door, Prepared, keptAfter}
+use Rattle.tokens.specs.declared.door.Door.{Door}
+use Rattle.tokens.specs.declared.door.Door.the-variants as doors
+use Rattle.tokens.proofs.LentLaws.{records-then-zeros}
+use Rattle.tokens.proofs.DoorLaws.{file-not-31}
+use Rattle.tokens.proofs.PlaceLaws.{kept-part}
+use Rattle.grammar.specs.Result.{Res, got, bad, answer}
+use Rattle.grammar.specs.Rules.{base}
+use Rattle.grammar.specs.FileReading.{Definition}
+use Rattle.grammar.specs.FileReader.{fileAt}
+use Rattle.grammar.specs.FileRecords.{definitionRecords, fileStatements, fileArguments, fileArgumentRecords, fileStatementCount}
+use Rattle.grammar.specs.Call.{filled}
+use Rattle.files.specs.declared.file.FileRead.{FileRead}
+use Rattle.files.specs.declared.file.FileRead.the-variants as files
+use Rattle.files.specs.declared.entry.File.{File}
+use Rattle.files.specs.declared.entry.File.the-variants as answers
+use Rattle.files.specs.Answers.{FileParsed}
+use Rattle.files.specs.Call.{settled, FileCall}
+use Rattle.files.specs.Taken.{FileTaken}
+use Rattle.files.proofs.RecordLaws.{definition-count, statement-count, argument-count, definition-wide, statement-wide, argument-wide}
+
+-- ---- tables
+
+-- only zeros
+pub filled-none : (n : ℕ) → filled n [] ≡ replicate n 0
+unfolding flatten
+filled-none n = ap (λ (k : ℕ). replicate k 0) (sub-zero n)
+
+-- the table t was zeroed to z
+abbrev pub Zeroed : List ℕ → List ℕ → Type 0
+Zeroed t z = z ≡ replicate (length t) 0
+
+-- a table that kept its length, zeroed
+none-left : (t u v : List ℕ) → length u ≡ length t → Zeroed u v → v ≡ filled (length t) []
+none-left t u v same f = f ∙ ap (λ (n : ℕ). replicate n 0) same ∙ sym (filled-none (length t))
+
+-- ---- each way out of `read_kept`: after a refusal the tables are zeroed, else what stands behind the records
+
+module _ (de st ar de₁ st₁ ar₁ : List ℕ) (de-same : length de₁ ≡ length de) (st-same : length st₁ ≡ length st) (ar-same : length ar₁ ≡ length ar) (de₂ st₂ ar₂ : List ℕ) where
+  module _ (zeroed : Zeroed de₁ de₂ × Zeroed st₁ st₂ × Zeroed ar₁ ar₂) where
+    -- 1 to 21
+    pub taken-refused : (read : Res (List Definition)) (c q : ℕ) (r : FileRead) → FileParsed read de st ar r de₁ st₁ ar₁ → r ≡ files.Refused c q
+        → FileTaken (answer read) de st ar (answers.Refused c q) de₂ st₂ ar₂
+    taken-refused (got ds k) c q r h g = absurd (let z : _≡_ {A = ℕ} 0 1 = cc (h .is) in omega arith)
+    taken-refused (bad y w) c q r h g =
+        record {
+          answer = cc (h .is);
+          definitionsHold = none-left de de₁ de₂ de-same (zeroed .0);
+          statementsHold = none-left st st₁ st₂ st-same (zeroed .1);
+          argumentsHold = none-left ar ar₁ ar₂ ar-same (zeroed .2);
+        }
+
+    -- 32
+    pub taken-32 : (read : Res (List Definition)) (p d i a : ℕ) (r : FileRead) → FileParsed read de st ar r de₁ st₁ ar₁ → r ≡ files.Done p d i a
+        → length de₁ / definitionWidth < d
+        → FileTaken (answer read) de st ar (answers.DefinitionsTooSmall d) de₂ st₂ ar₂
+    unfolding settled
+    taken-32 (got ds k) p d i a r h g small =
+        let count : length ds ≡ d = cc (h .is) in
+        record {
+          answer = rw (lt-ltb (length de / definitionWidth) (length ds) (rw (count, ← de-same) small)) (cc);
+          definitionsHold = none-left de de₁ de₂ de-same (zeroed .0);
+          statementsHold = none-left st st₁ st₂ st-same (zeroed .1);
+          argumentsHold = none-left ar ar₁ ar₂ ar-same (zeroed .2);
+        }
+    taken-32 (bad y w) p d i a r h g small = absurd (let z : _≡_ {A = ℕ} 0 1 = cc (h .is) in omega arith)
+
+    -- 33
+    pub taken-33 : (read : Res (List Definition)) (p d i a : ℕ) (r : FileRead) → FileParsed read de st ar r de₁ st₁ ar₁ → r ≡ files.Done p d i a
+        → d ≤ length de₁ / definitionWidth → length st₁ / statementWidth < i
+        → FileTaken (answer read) de st ar (answers.StatementsTooSmall i) de₂ st₂ ar₂
+    unfolding settled
+    taken-33 (got ds k) p d i a r h g room small =
+        let count : length ds ≡ d = cc (h .is) in
+        let count′ : fileStatementCount ds ≡ i = cc (h .is) in
+        record {
+          answer = rw (le-ltb (length de / definitionWidth) (length ds) (rw (count, ← de-same) room), lt-ltb (length st / statementWidth) (fileStatementCount ds) (rw (count′, ← st-same) small)) (cc);
+          definitionsHold = none-left de de₁ de₂ de-same (zeroed .0);
+          statementsHold = none-left st st₁ st₂ st-same (zeroed .1);
+          argumentsHold = none-left ar ar₁ ar₂ ar-same (zeroed .2);
+        }
+    taken-33 (bad y w) p d i a r h g room small = absurd (let z : _≡_ {A = ℕ} 0 1 = cc (h .is) in omega arith)
+
+    -- 34
+    pub taken-34 : (read : Res (List Definition)) (p d i a : ℕ) (r : FileRead) → FileParsed read de st ar r de₁ st₁ ar₁ → r ≡ files.Done p d i a
+        → d ≤ length de₁ / definitionWidth → i ≤ length st₁ / statementWidth → length ar₁ / argumentWidth < a
+        → FileTaken (answer read) de st ar (answers.ArgumentsTooSmall a) de₂ st₂ ar₂
+    unfolding settled
+    taken-34 (got ds k) p d i a r h g room room′ small =
+        let count : length ds ≡ d = cc (h .is) in
+        let count′ : fileStatementCount ds ≡ i = cc (h .is) in
+        let count″ : length (fileArguments ds) ≡ a = cc (h .is) in
+        record {
+          answer =
+              rw (
+                le-ltb (length de / definitionWidth) (length ds) (rw (count, ← de-same) room),
+                le-ltb (length st / statementWidth) (fileStatementCount ds) (rw (count′, ← st-same) room′),
+                lt-ltb (length ar / argumentWidth) (length (fileArguments ds)) (rw (count″, ← ar-same) small),
+              ) (cc);
+          definitionsHold = none-left de de₁ de₂ de-same (zeroed .0);
+          statementsHold = none-left st st₁ st₂ st-same (zeroed .1);
+          argumentsHold = none-left ar ar₁ ar₂ ar-same (zeroed .2);
+        }
+    taken-34 (bad y w) p d i a r h g room room′ small = absurd (let z : _≡_ {A = ℕ} 0 1 = cc (h .is) in omega arith)
+
+  -- accepted
+  pub taken-read : (read : Res (List Definition)) (p d i a : ℕ) (r : FileRead) → FileParsed read de st ar r de₁ st₁ ar₁ → r ≡ files.Done p d i a
+      → d ≤ length de₁ / definitionWidth → i ≤ length st₁ / statementWidth → a ≤ length ar₁ / argumentWidth
+      → (de₂ ≡ clearedBehind definitionWidth d de₁) × (st₂ ≡ clearedBehind statementWidth i st₁) × (ar₂ ≡ clearedBehind argumentWidth a ar₁)
+      → FileTaken (answer read) de st ar (answers.Read p d i a) de₂ st₂ ar₂
+  unfolding settled
+  taken-read (got ds k) p d i a r h g room room′ room″ cleared =
+      let count : length ds ≡ d = cc (h .is) in
+      let count′ : fileStatementCount ds ≡ i = cc (h .is) in
+      let count″ : length (fileArguments ds) ≡ a = cc (h .is) in
+      let place : k ≡ p = cc (h .is) in
+      record {
+        answer =
+            rw (
+              le-ltb (length de / definitionWidth) (length ds) (rw (count, ← de-same) room),
+              le-ltb (length st / statementWidth) (fileStatementCount ds) (rw (count′, ← st-same) room′),
+              le-ltb (length ar / argumentWidth) (length (fileArguments ds)) (rw (count″, ← ar-same) room″),
+            ) (cc);
+        definitionsHold =
+            cleared .0
+            ∙ records-then-zeros definitionWidth (definitionRecords 0 0 ds) de (omega arith) (definition-wide 0 0 ds) (definition-count 0 0 ds ∙ count) (rw (← de-same) room) (h .definitionsHold);
+        statementsHold =
+            cleared .1
+            ∙ records-then-zeros statementWidth (fileStatements 0 0 ds) st (omega arith) (statement-wide 0 0 ds) (statement-count 0 0 ds ∙ count′) (rw (← st-same) room′) (h .statementsHold);
+        argumentsHold =
+            cleared .2
+            ∙ records-then-zeros argumentWidth (fileArgumentRecords ds) ar (omega arith) (argument-wide ds) (argument-count ds ∙ count″) (rw (← ar-same) room″) (h .argumentsHold);
+      }
+  taken-read (bad y w) p d i a r h g room room′ room″ cleared = absurd (let z : _≡_ {A = ℕ} 0 1 = cc (h .is) in omega arith)
+
+-- ---- each way out of `read_file`
+
+module _ (text words kept kept′ : List ℕ) (r : Door) (prepared : Prepared text words 0 kept r kept′) where
+  listed : kept′ ≡ keptAfter (door text words 0 (length kept)) words kept
+  listed = prepared .list ∙ ap (λ (d : Door). keptAfter d words kept) (prepared .answer)
+
+  -- let through: the reading of the kept numbers, which are the first words of the kept list
+  pub called-ready : (n : ℕ) → r ≡ doors.Ready n → (de st ar : List ℕ) (f : File) (de′ st′ ar′ : List ℕ)
+      → FileTaken (fileAt base true (view text words (take (n - 0) kept′))) de st ar f de′ st′ ar′
+      → FileCall text words kept de st ar f kept′ de′ st′ ar′
+  called-ready n is de st ar f de′ st′ ar′ taken =
+      let door-is : door text words 0 (length kept) ≡ doors.Ready n = sym (prepared .answer) ∙ is in
+      let read : FileTaken (fileAt base true (view text words (keptOf words))) de st ar f de′ st′ ar′ = rw (kept-part text words 0 kept prepared is .0) at taken in
+      record {
+        answer = rw door-is (read .answer);
+        list = listed;
+        definitionsHold = read .definitionsHold;
+        statementsHold = read .statementsHold;
+        argumentsHold = read .argumentsHold;
+      }
+
+  -- 30 and 35: nothing lent has changed
+  module _ (de st ar : List ℕ) (at : ℕ) where
+    pub called-30 : r ≡ doors.NotWellFormed at → FileCall text words kept de st ar (answers.NotWellFormed at) kept′ de st ar
+    called-30 is =
+        let door-is : door text words 0 (length kept) ≡ doors.NotWellFormed at = sym (prepared .answer) ∙ is in
+        record { answer = rw door-is; list = listed; definitionsHold = refl; statementsHold = refl; argumentsHold = refl }
+
+    pub called-35 : r ≡ doors.KeptTooShort at → FileCall text words kept de st ar (answers.KeptTooShort at) kept′ de st ar
+    called-35 is =
+        let door-is : door text words 0 (length kept) ≡ doors.KeptTooShort at = sym (prepared .answer) ∙ is in
+        record { answer = rw door-is; list = listed; definitionsHold = refl; statementsHold = refl; argumentsHold = refl }
+
+    -- never given
+    pub called-31 : r ≡ doors.StartOutside at → FileCall text words kept de st ar (answers.NotWellFormed at) kept′ de st ar
+    called-31 is = absurd (file-not-31 text words (length kept) (sym (prepared .answer) ∙ is))

@@ -1,0 +1,18 @@
+-- What reading behind the door promises.
+use mathlib.Core.Path.{_≡_}
+use mathlib.Core.List.{List}
+use Prim.Native.Nat.{ℕ}
+use lib.ListN.{length}
+use Rattle.grammar.specs.Result.{Answer}
+use Rattle.grammar.specs.FileReading.{Definition}
+use Rattle.grammar.specs.FileRecords.{definitionRecords, fileStatements, fileArgumentRecords}
+use Rattle.grammar.specs.Call.{recordsOf, heldAfter}
+use Rattle.files.specs.declared.entry.File.{File}
+use Rattle.files.specs.Call.{leaves, afterReading}
+
+-- the answer for what was read, and the three tables afterwards
+pub record FileTaken (read : Answer (List Definition)) (definitions statements arguments : List ℕ) (r : File) (definitions′ statements′ arguments′ : List ℕ) : Type 0 where
+  pub answer : r ≡ afterReading read (length definitions) (length statements) (length arguments)
+  pub definitionsHold : definitions′ ≡ heldAfter (leaves r) (recordsOf (definitionRecords 0 0) read) definitions
+  pub statementsHold : statements′ ≡ heldAfter (leaves r) (recordsOf (fileStatements 0 0) read) statements
+  pub argumentsHold : arguments′ ≡ heldAfter (leaves r) (recordsOf fileArgumentRecords read) arguments

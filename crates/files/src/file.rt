@@ -1,0 +1,239 @@
+// The file: definitions up to Eof.
+use definitions::definition::read_definition;
+use definitions::record::DefRead;
+use definitions::record::is_named;
+use names::check_duplicate;
+use tokens::kind;
+use tokens::kind_at;
+use tokens::number;
+use tokens::start_of;
+ghost use Prim.Native.Nat.{_≤_};
+ghost use lib.ListN.{length};
+ghost use mathlib.Core.List.{[]};
+ghost use mathlib.Core.Bool.{true};
+ghost use Rattle.tokens.specs.Token.{view};
+ghost use Rattle.grammar.specs.Rules.{base};
+ghost use Rattle.grammar.specs.FileReader as reader;
+ghost use Rattle.tokens.specs.Place.{FromDoor, tokensFrom};
+ghost use Rattle.files.specs.Answers.{Readable, FileParsed};
+ghost use Rattle.definitions.specs.Answers.{Reading, DefAdded};
+
+// The place of Eof, and the definition, statement and argument records; or a refusal's number and cursor.
+pub enum FileRead {
+    Done(usize, usize, usize, usize),
+    Refused(u32, usize),
+}
+
+// A definition behind d definition, i statement and a argument records. Its reader is lent only what is still free of each table.
+fn next_definition(
+    text: &[u8],
+    tokens: &[u32],
+    kept: &[u32],
+    p: usize,
+    definitions: &mut [u32],
+    statements: &mut [u32],
+    arguments: &mut [u32],
+    d: usize,
+    i: usize,
+    a: usize,
+) -> DefRead
+    requires { ⌜ Reading (now tokens) (now kept) p p i a ⌝ }
+    ensures { λ r. ⌜ DefAdded (view (now (text .entry)) (now (tokens .entry)) (now (kept .entry))) p i a (length (now (kept .entry)))
+        (reader.topLevel base p (tokensFrom (now (text .entry)) (now (tokens .entry)) (now (kept .entry)) p)) d i a
+        (now (definitions .entry)) (now (statements .entry)) (now (arguments .entry)) r
+        (now (definitions .exit)) (now (statements .exit)) (now (arguments .exit)) ⌝ }
+{
+    let x = start_of(definitions.len(), d, number::DEFINITION_WIDTH);
+    let y = start_of(statements.len(), i, number::STATEMENT_WIDTH);
+    let z = start_of(arguments.len(), a, number::ARGUMENT_WIDTH);
+    read_definition(
+        text,
+        tokens,
+        kept,
+        p,
+        &mut definitions[x..],
+        &mut statements[y..],
+        &mut arguments[z..],
+        i,
+        a,
+    )
+}
+
+// Definitions up to Eof. marks, places and hashes are room for the names of macros, fns and tests, each of which takes at least eight tokens: places and
+// hashes for an eighth of the kept tokens are enough.
+pub fn parse(
+    text: &[u8],
+    tokens: &[u32],
+    kept: &[u32],
+    definitions: &mut [u32],
+    statements: &mut [u32],
+    arguments: &mut [u32],
+    marks: &mut [u8],
+    places: &mut [u32],
+    hashes: &mut [u32],
+) -> FileRead
+    requires { ⌜ Readable (now tokens) (now kept) (now marks) (now places) (now hashes) ⌝ }
+    ensures { λ r. ⌜ FileParsed (reader.parse base true [] 0 (view (now (text .entry)) (now (tokens .entry)) (now (kept .entry))))
+        (now (definitions .entry)) (now (statements .entry)) (now (arguments .entry)) r
+        (now (definitions .exit)) (now (statements .exit)) (now (arguments .exit)) ⌝ }
+{
+    let mut p = 0;
+    let mut d = 0;
+    let mut i = 0;
+    let mut a = 0;
+    let mut m = 0;
+    loop {
+        if kind_at(tokens, kept, p) == kind::EOF {
+            if p < kept.len() {
+                return FileRead::Done(p, d, i, a);
+            }
+            // no Eof ends the list
+            return FileRead::Refused(number::UNEXPECTED_TYPE, p);
+        }
+        match next_definition(
+            text,
+            tokens,
+            kept,
+            p,
+            definitions,
+            statements,
+            arguments,
+            d,
+            i,
+            a,
+        ) {
+            DefRead::Refused(c, at) => {
+                return FileRead::Refused(c, at);
+            }
+            DefRead::Done(f, n) => {
+                d += 1;
+                i += f.statements as usize;
+                a += n;
+                p = f.end as usize;
+                if is_named(f.kind) {
+                    let name = f.name as usize;
+                    if check_duplicate(text, tokens, kept, name, marks, places, hashes, m) {
+                        return FileRead::Refused(number::DUPLICATE_MACRO, name);
+                    }
+                    m += 1;
+                    continue;
+                }
+            }
+        }
+    }
+}
+
+// The same with its own room for names, for a list of few tokens: what is made anew for each call should cost no more than the reading.
+fn parse_few(
+    text: &[u8],
+    tokens: &[u32],
+    kept: &[u32],
+    definitions: &mut [u32],
+    statements: &mut [u32],
+    arguments: &mut [u32],
+) -> FileRead
+    requires { ⌜ FromDoor (now tokens) (now kept) ⌝ }
+    requires { ⌜ length (now kept) ≤ 1536 ⌝ }
+    ensures { λ r. ⌜ FileParsed (reader.parse base true [] 0 (view (now (text .entry)) (now (tokens .entry)) (now (kept .entry))))
+        (now (definitions .entry)) (now (statements .entry)) (now (arguments .entry)) r
+        (now (definitions .exit)) (now (statements .exit)) (now (arguments .exit)) ⌝ }
+{
+    let mut marks = [0u8; 512];
+    let mut places = [0u32; 192];
+    let mut hashes = [0u32; 192];
+    parse(
+        text,
+        tokens,
+        kept,
+        definitions,
+        statements,
+        arguments,
+        &mut marks,
+        &mut places,
+        &mut hashes,
+    )
+}
+
+// For a list of some thousand tokens: clearing the room for any list would cost it more than its reading is worth.
+fn parse_some(
+    text: &[u8],
+    tokens: &[u32],
+    kept: &[u32],
+    definitions: &mut [u32],
+    statements: &mut [u32],
+    arguments: &mut [u32],
+) -> FileRead
+    requires { ⌜ FromDoor (now tokens) (now kept) ⌝ }
+    requires { ⌜ length (now kept) ≤ 12288 ⌝ }
+    ensures { λ r. ⌜ FileParsed (reader.parse base true [] 0 (view (now (text .entry)) (now (tokens .entry)) (now (kept .entry))))
+        (now (definitions .entry)) (now (statements .entry)) (now (arguments .entry)) r
+        (now (definitions .exit)) (now (statements .exit)) (now (arguments .exit)) ⌝ }
+{
+    let mut marks = [0u8; 4096];
+    let mut places = [0u32; 1536];
+    let mut hashes = [0u32; 1536];
+    parse(
+        text,
+        tokens,
+        kept,
+        definitions,
+        statements,
+        arguments,
+        &mut marks,
+        &mut places,
+        &mut hashes,
+    )
+}
+
+// For any list.
+fn parse_many(
+    text: &[u8],
+    tokens: &[u32],
+    kept: &[u32],
+    definitions: &mut [u32],
+    statements: &mut [u32],
+    arguments: &mut [u32],
+) -> FileRead
+    requires { ⌜ FromDoor (now tokens) (now kept) ⌝ }
+    ensures { λ r. ⌜ FileParsed (reader.parse base true [] 0 (view (now (text .entry)) (now (tokens .entry)) (now (kept .entry))))
+        (now (definitions .entry)) (now (statements .entry)) (now (arguments .entry)) r
+        (now (definitions .exit)) (now (statements .exit)) (now (arguments .exit)) ⌝ }
+{
+    let mut marks = [0u8; 16384];
+    let mut places = [0u32; 8192];
+    let mut hashes = [0u32; 8192];
+    parse(
+        text,
+        tokens,
+        kept,
+        definitions,
+        statements,
+        arguments,
+        &mut marks,
+        &mut places,
+        &mut hashes,
+    )
+}
+
+// With room by the number of tokens.
+pub fn read_definitions(
+    text: &[u8],
+    tokens: &[u32],
+    kept: &[u32],
+    definitions: &mut [u32],
+    statements: &mut [u32],
+    arguments: &mut [u32],
+) -> FileRead
+    requires { ⌜ FromDoor (now tokens) (now kept) ⌝ }
+    ensures { λ r. ⌜ FileParsed (reader.parse base true [] 0 (view (now (text .entry)) (now (tokens .entry)) (now (kept .entry))))
+        (now (definitions .entry)) (now (statements .entry)) (now (arguments .entry)) r
+        (now (definitions .exit)) (now (statements .exit)) (now (arguments .exit)) ⌝ }
+{
+    if kept.len() <= 1536 {
+        return parse_few(text, tokens, kept, definitions, statements, arguments);
+    }
+    if kept.len() <= 12288 {
+        return parse_some(text, tokens, kept, definitions, statements, arguments);
+    }
+    parse_many(text, tokens, kept, definitions, statements, arguments)
+}

@@ -1,0 +1,10 @@
+// Lists of arguments, and a number in parentheses: what the statement and the definition layer read alike.
+pub mod argument;
+pub mod list;
+pub mod single;
+
+pub use argument::Sort;
+pub use list::ArgList;
+pub use list::parse_args;
+pub use single::Single;
+pub use single::parse_single_arg;

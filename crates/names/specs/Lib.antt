@@ -1,0 +1,2 @@
+-- What the test for repeated names promises, and what it remembers.
+pub mod Names

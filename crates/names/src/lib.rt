@@ -1,0 +1,4 @@
+// Repeated names.
+mod names;
+
+pub use names::check_duplicate;

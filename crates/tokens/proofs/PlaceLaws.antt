@@ -1,0 +1,124 @@
+-- A well-formed list's kept tokens lie one behind the other in the text, and there are no more of them than tokens. Assumes nothing.
+use Prim.Native.Nat.{ℕ, zero, suc, _+_, _-_, _*_, _%_, _≤_, _<_}
+use mathlib.Core.Path.{_≡_, sym, ap, _∙_}
+use mathlib.Core.Bool.{Bool, true, false, _&&_}
+use mathlib.Core.List.{List, _∷_, _++_}
+use mathlib.Core.Logic.{⊎-elim}
+use native.Mathlib.Omega.{arith}
+use native.Mathlib.Nat.{eq-or-lt-of-le}
+use borrow.Author.Tests.{leb-true, lt-ltb}
+use lib.Dec.{leb, ltb, eqb}
+use lib.ListN.{length, getD, take, drop, length-append}
+use lib.Seq.{sets-eq, take-at}
+use Rattle.tokens.specs.Kind.{kinds}
+use Rattle.tokens.specs.Token.{tokenCount, kindOf, startOf, endOf, extraOf, fieldAt}
+use Rattle.tokens.specs.WellFormed.{wholeGood, prevEnd, rangeGood, eofGood, contentsGood, goodAfter, good, WellFormed}
+use Rattle.tokens.specs.Kept.{keptOf}
+use Rattle.tokens.proofs.Laws.{and-left, and-right}
+use Rattle.tokens.proofs.KeptLaws.{kept-rising, kept-numbered}
+use Rattle.tokens.specs.Door.{keptAfter, Prepared}
+use Rattle.tokens.specs.Place.{Lined, FromDoor, Place}
+use Rattle.tokens.specs.declared.door.Door.{Door}
+use Rattle.tokens.specs.declared.door.Door.the-variants.{Ready}
+use Rattle.tokens.proofs.DoorLaws.{LetThrough, ready}
+
+-- ---- the tokens of the lent list
+
+-- what "well formed" says of the range of token number i
+record Ranged (text words : List ℕ) (i : ℕ) : Type 0 where
+  after : prevEnd words i ≤ startOf words i
+  forwards : startOf words i ≤ endOf words i
+  within : endOf words i ≤ length text
+
+module _ (text words : List ℕ) (formed : WellFormed text words) where
+  ranged : (i : ℕ) → i < tokenCount words → Ranged text words i
+  unfolding good goodAfter rangeGood
+  ranged i h =
+      let kind = ltb (kindOf words i) kinds in
+      let first = leb (prevEnd words i) (startOf words i) in
+      let second = leb (startOf words i) (endOf words i) in
+      let third = leb (endOf words i) (length text) in
+      let eof = eofGood (eqb (i + 1) (tokenCount words)) (kindOf words i) in
+      let contents = contentsGood text (kindOf words i) (startOf words i) (endOf words i) (extraOf words i) in
+      let range : (first && second && third) ≡ true =
+      and-right kind (first && second && third)
+      (and-left (kind && (first && second && third)) eof
+      (and-left (kind && (first && second && third) && eof) contents (formed .each i h))) in
+      record {
+        after = leb-true _ _ (and-left first second (and-left (first && second) third range));
+        forwards = leb-true _ _ (and-right first second (and-left (first && second) third range));
+        within = leb-true _ _ (and-right (first && second) third range);
+      }
+
+  -- a token ends before any later one starts
+  ends-before : (i j : ℕ) → i < j → j < tokenCount words → endOf words i ≤ startOf words j
+  unfolding prevEnd
+  ends-before i zero h k = absurd (none i h)
+    where
+      none : (i : ℕ) → i < zero → ⊥
+      none i h = omega arith
+  ends-before i (suc j) h k =
+      go (λ (l : i < j). ends-before i j l (omega arith)) (ranged (suc j) k .after)
+    where
+      go : (i < j → endOf words i ≤ startOf words j) → endOf words j ≤ startOf words (suc j) → endOf words i ≤ startOf words (suc j)
+      go earlier next =
+          ⊎-elim
+          (λ (e : i ≡ j). rw e next)
+          (λ (l : i < j).
+          let one = earlier l in
+          let two = ranged j (omega arith) .forwards in
+          omega arith)
+          (eq-or-lt-of-le (down i j h))
+        where
+          down : (i j : ℕ) → i < suc j → i ≤ j
+          down i j h = omega arith
+
+  short : length text ≤ 1048576
+  unfolding wholeGood
+  short =
+      let a = leb (length text) 1048576 in
+      let b = eqb (length words % 4) 0 in
+      let c = ltb 0 (tokenCount words) in
+      let d = leb (tokenCount words) 65536 in
+      leb-true _ _ (and-left a b (and-left (a && b) c (and-left (a && b && c) d (formed .whole))))
+
+-- ---- the kept list
+
+field-is : (j : ℕ) (words kept : List ℕ) (p : ℕ) → p < length kept → fieldAt j words kept p ≡ getD words (getD kept p 0 * 4 + j) 0
+unfolding fieldAt
+field-is j words kept p h = rw (lt-ltb _ _ h)
+
+lined-kept : (text words : List ℕ) → WellFormed text words → Lined words (keptOf words)
+lined-kept text words formed =
+    record {
+      range = λ p h.
+          let r = kept-rising words in
+          rw (field-is 1 words (keptOf words) p h, field-is 2 words (keptOf words) p h)
+          (ranged text words formed (getD (keptOf words) p 0) (omega (arith, r .high p h)) .forwards);
+      next = λ p h.
+          let r = kept-rising words in
+          let here : p < length (keptOf words) = omega arith in
+          rw (field-is 2 words (keptOf words) p here, field-is 1 words (keptOf words) (suc p) h)
+          (ends-before text words formed (getD (keptOf words) p 0) (getD (keptOf words) (suc p) 0) (r .rises p h) (omega (arith, r .high (suc p) h)));
+      end = λ p h.
+          let r = kept-rising words in
+          rw (field-is 2 words (keptOf words) p h)
+          (omega (arith, short text words formed, ranged text words formed (getD (keptOf words) p 0) (omega (arith, r .high p h)) .within));
+    }
+
+-- what a well-formed list of so few tokens leaves
+from-door : (text words : List ℕ) → WellFormed text words → tokenCount words ≤ 65536 → FromDoor words (keptOf words)
+from-door text words formed few =
+    record { numbered = kept-numbered words; few = omega (arith, kept-rising words .few); lined = lined-kept text words formed }
+
+-- let through by the door: the part of the kept list up to the count is what was kept, and the start is a place in it
+pub kept-part : (text words : List ℕ) (start : ℕ) (kept : List ℕ) {kept′ : List ℕ} {d : Door} {n : ℕ} → Prepared text words start kept d kept′ → d ≡ Ready n
+    → (take (n - 0) kept′ ≡ keptOf words) × (n ≤ length kept′) × Place words (keptOf words) start
+kept-part text words start kept {kept′} {d} {n} p e =
+    let l : LetThrough text words start (length kept) n = ready text words start (length kept) (sym (p .answer) ∙ e) in
+    let room : 0 + length (keptOf words) ≤ length kept = omega (arith, l .count, l .room-enough) in
+    let is : kept′ ≡ keptOf words ++ drop (0 + length (keptOf words)) kept = p .list ∙ ap (λ (x : Door). keptAfter x words kept) e ∙ sets-eq (keptOf words) kept 0 room in (
+      ap (take (n - 0)) is ∙ take-at (keptOf words) (drop (0 + length (keptOf words)) kept) (n - 0) (omega (arith, l .count)),
+      omega (arith, ap length is, length-append (keptOf words) (drop (0 + length (keptOf words)) kept), l .count),
+      record { list = from-door text words (l .formed) (l .few); inside = omega (arith, l .inside, l .count) },
+    )

@@ -1,0 +1,121 @@
+-- Document 01's numbers by name, but for the kinds of a token (Kind): refusals, the widths of records, and limits.
+use Prim.Native.Nat.{ℕ}
+
+-- ---- "Refusal numbers"
+
+abbrev pub UnexpectedType : ℕ
+UnexpectedType = 1
+
+abbrev pub InvalidDefinition : ℕ
+InvalidDefinition = 2
+
+abbrev pub InvalidConstantValue : ℕ
+InvalidConstantValue = 3
+
+abbrev pub InvalidPush : ℕ
+InvalidPush = 4
+
+abbrev pub InvalidTokenInMacroBody : ℕ
+InvalidTokenInMacroBody = 5
+
+abbrev pub InvalidTokenInLabelDefinition : ℕ
+InvalidTokenInLabelDefinition = 6
+
+abbrev pub InvalidTypeAsArgumentName : ℕ
+InvalidTypeAsArgumentName = 7
+
+abbrev pub InvalidArgs : ℕ
+InvalidArgs = 8
+
+abbrev pub InvalidSingleArg : ℕ
+InvalidSingleArg = 9
+
+abbrev pub InvalidMacroArgs : ℕ
+InvalidMacroArgs = 10
+
+abbrev pub InvalidTableBodyToken : ℕ
+InvalidTableBodyToken = 11
+
+abbrev pub InvalidConstant : ℕ
+InvalidConstant = 12
+
+abbrev pub InvalidArgCallIdent : ℕ
+InvalidArgCallIdent = 13
+
+abbrev pub DuplicateMacro : ℕ
+DuplicateMacro = 20
+
+abbrev pub PoundAtTopLevel : ℕ
+PoundAtTopLevel = 21
+
+abbrev pub DuplicateLabel : ℕ
+DuplicateLabel = 22
+
+abbrev pub NotWellFormed : ℕ
+NotWellFormed = 30
+
+abbrev pub StartOutside : ℕ
+StartOutside = 31
+
+abbrev pub DefinitionsTooSmall : ℕ
+DefinitionsTooSmall = 32
+
+abbrev pub StatementsTooSmall : ℕ
+StatementsTooSmall = 33
+
+abbrev pub ArgumentsTooSmall : ℕ
+ArgumentsTooSmall = 34
+
+abbrev pub KeptTooShort : ℕ
+KeptTooShort = 35
+
+-- ---- "Records, in 32-bit words"
+
+abbrev pub tokenWidth : ℕ
+tokenWidth = 4
+
+abbrev pub definitionWidth : ℕ
+definitionWidth = 12
+
+abbrev pub statementWidth : ℕ
+statementWidth = 8
+
+abbrev pub argumentWidth : ℕ
+argumentWidth = 7
+
+-- ---- what stands in the words of a record: an argument's form and location
+
+abbrev pub nameForm : ℕ
+nameForm = 1
+
+abbrev pub stringForm : ℕ
+stringForm = 2
+
+abbrev pub literalForm : ℕ
+literalForm = 3
+
+abbrev pub callLiteralForm : ℕ
+callLiteralForm = 4
+
+abbrev pub callNameForm : ℕ
+callNameForm = 5
+
+abbrev pub callAngledForm : ℕ
+callAngledForm = 6
+
+abbrev pub inCalldata : ℕ
+inCalldata = 1
+
+abbrev pub inMemory : ℕ
+inMemory = 2
+
+abbrev pub inStorage : ℕ
+inStorage = 3
+
+-- ---- "at most 1,048,576 bytes", "1 to 65,536 tokens"
+
+abbrev pub mostBytes : ℕ
+mostBytes = 1048576
+
+abbrev pub mostTokens : ℕ
+mostTokens = 65536
