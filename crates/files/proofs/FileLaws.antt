@@ -294,10 +294,8 @@ loop-begins text words kept de st ar marks places hashes some =
       ends = refl;
       noted =
           record {
-            placed = omega arith;
-            stored = omega arith;
+            names = record { placed = omega arith; stored = omega arith; hashed = λ j h. absurd (none j h) };
             halves = some;
-            hashed = λ j h. absurd (none j h);
             marked = λ _ j h. absurd (none j h);
           };
       inside = omega arith;

@@ -18,6 +18,24 @@ ghost use Rattle.tokens.specs.Place.{FromDoor, tokensFrom};
 ghost use Rattle.files.specs.Answers.{Readable, FileParsed};
 ghost use Rattle.definitions.specs.Answers.{Reading, DefAdded};
 
+// Room for names by the number of tokens: what is made anew for each call should cost no more than the reading. With the largest room alone a file of 60 tokens takes
+// some five times as long, and one of 2,000 tokens up to 27 in 100 longer. A name for every eight tokens, which is what the shortest macro takes.
+const FEW_TOKENS: usize = 1536;
+
+const FEW_NAMES: usize = 192;
+
+const FEW_MARKS: usize = 512;
+
+const SOME_TOKENS: usize = 12288;
+
+const SOME_NAMES: usize = 1536;
+
+const SOME_MARKS: usize = 4096;
+
+const MANY_NAMES: usize = 8192;
+
+const MANY_MARKS: usize = 16384;
+
 // The place of Eof, and the definition, statement and argument records; or a refusal's number and cursor.
 pub enum FileRead {
     Done(usize, usize, usize, usize),
@@ -59,8 +77,7 @@ fn next_definition(
     )
 }
 
-// Definitions up to Eof. marks, places and hashes are room for the names of macros, fns and tests, each of which takes at least eight tokens: places and
-// hashes for an eighth of the kept tokens are enough.
+// Definitions up to Eof. marks, places and hashes are room for the names of macros, fns and tests.
 pub fn parse(
     text: &[u8],
     tokens: &[u32],
@@ -123,7 +140,7 @@ pub fn parse(
     }
 }
 
-// The same with its own room for names, for a list of few tokens: what is made anew for each call should cost no more than the reading.
+// The same with its own room for names, for a list of few tokens.
 fn parse_few(
     text: &[u8],
     tokens: &[u32],
@@ -138,9 +155,9 @@ fn parse_few(
         (now (definitions .entry)) (now (statements .entry)) (now (arguments .entry)) r
         (now (definitions .exit)) (now (statements .exit)) (now (arguments .exit)) ⌝ }
 {
-    let mut marks = [0u8; 512];
-    let mut places = [0u32; 192];
-    let mut hashes = [0u32; 192];
+    let mut marks = [0u8; FEW_MARKS];
+    let mut places = [0u32; FEW_NAMES];
+    let mut hashes = [0u32; FEW_NAMES];
     parse(
         text,
         tokens,
@@ -154,7 +171,7 @@ fn parse_few(
     )
 }
 
-// For a list of some thousand tokens: clearing the room for any list would cost it more than its reading is worth.
+// For a list of some thousand tokens.
 fn parse_some(
     text: &[u8],
     tokens: &[u32],
@@ -169,9 +186,9 @@ fn parse_some(
         (now (definitions .entry)) (now (statements .entry)) (now (arguments .entry)) r
         (now (definitions .exit)) (now (statements .exit)) (now (arguments .exit)) ⌝ }
 {
-    let mut marks = [0u8; 4096];
-    let mut places = [0u32; 1536];
-    let mut hashes = [0u32; 1536];
+    let mut marks = [0u8; SOME_MARKS];
+    let mut places = [0u32; SOME_NAMES];
+    let mut hashes = [0u32; SOME_NAMES];
     parse(
         text,
         tokens,
@@ -199,9 +216,9 @@ fn parse_many(
         (now (definitions .entry)) (now (statements .entry)) (now (arguments .entry)) r
         (now (definitions .exit)) (now (statements .exit)) (now (arguments .exit)) ⌝ }
 {
-    let mut marks = [0u8; 16384];
-    let mut places = [0u32; 8192];
-    let mut hashes = [0u32; 8192];
+    let mut marks = [0u8; MANY_MARKS];
+    let mut places = [0u32; MANY_NAMES];
+    let mut hashes = [0u32; MANY_NAMES];
     parse(
         text,
         tokens,
@@ -229,10 +246,10 @@ pub fn read_definitions(
         (now (definitions .entry)) (now (statements .entry)) (now (arguments .entry)) r
         (now (definitions .exit)) (now (statements .exit)) (now (arguments .exit)) ⌝ }
 {
-    if kept.len() <= 1536 {
+    if kept.len() <= FEW_TOKENS {
         return parse_few(text, tokens, kept, definitions, statements, arguments);
     }
-    if kept.len() <= 12288 {
+    if kept.len() <= SOME_TOKENS {
         return parse_some(text, tokens, kept, definitions, statements, arguments);
     }
     parse_many(text, tokens, kept, definitions, statements, arguments)

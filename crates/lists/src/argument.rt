@@ -161,10 +161,10 @@ fn angled_rest(tokens: &[u32], kept: &[u32], p: usize) -> Arg
     angled_call(p)
 }
 
-// An argument of a call.
-fn call_argument(text: &[u8], tokens: &[u32], kept: &[u32], p: usize) -> Arg
+// An argument of a call, whatever the text.
+fn call_argument(tokens: &[u32], kept: &[u32], p: usize) -> Arg
     requires { ⌜ Place (now tokens) (now kept) p ⌝ }
-    ensures { λ r. ⌜ ArgRead p (length (now (kept .entry))) (callArgument 0 p (tokensFrom (now (text .entry)) (now (tokens .entry)) (now (kept .entry)) p)) r ⌝ }
+    ensures { λ r. ⌜ ((text : List ℕ) → ArgRead p (length (now (kept .entry))) (callArgument 0 p (tokensFrom text (now (tokens .entry)) (now (kept .entry)) p)) r) ⌝ }
 {
     let k = kind_at(tokens, kept, p);
     match k {
@@ -399,7 +399,7 @@ pub fn one_argument(
     ensures { λ r. ⌜ ArgRead p (length (now (kept .entry))) (one sort names p (tokensFrom (now (text .entry)) (now (tokens .entry)) (now (kept .entry)) p)) r ⌝ }
 {
     match sort {
-        Sort::Call => call_argument(text, tokens, kept, p),
+        Sort::Call => call_argument(tokens, kept, p),
         Sort::Builtin => builtin_argument(text, tokens, kept, names, p),
         Sort::Macro => name_argument(text, tokens, kept, names, p),
         Sort::Typed => typed_argument(text, tokens, kept, false, p),

@@ -19,7 +19,7 @@ use Rattle.tokens.specs.Byte.{same}
 use Rattle.tokens.specs.Name.{oneOf}
 use Rattle.tokens.proofs.NameLaws.{same-equal}
 use Rattle.tokens.proofs.TokenLaws.{view-text}
-use Rattle.names.specs.Names.{mixed, fourAt, restOf, hashFrom, hashOf, markByte, markBit, setBit, mark, nameAt, namesAt, Noted, Noting}
+use Rattle.names.specs.Names.{mixed, fourAt, restOf, hashFrom, hashOf, markByte, markBit, setBit, mark, nameAt, namesAt, Remembered, Noted, Noting}
 
 -- ---- the hash
 
@@ -205,11 +205,11 @@ module _ (all : List Token) (places name : List ℕ) where
   unfolding oneOf namesAt
   walk-end = refl
 
-  module _ (marks hashes : List ℕ) (n h : ℕ) (noted : Noted all marks places hashes n) (is : h ≡ hashOf name) where
-    -- a stored hash that is another tells that the name is another
-    pub hash-tells : (j : ℕ) → j < n → (getD hashes j 0 ≡ h → ⊥) → same (nameAt all places j) name ≡ false
-    hash-tells j lt other = other-hash (nameAt all places j) name (λ e. other (noted .hashed j lt ∙ e ∙ sym is))
+  -- a stored hash that is another tells that the name is another
+  pub hash-tells : (hashes : List ℕ) (n h : ℕ) → Remembered all places hashes n → h ≡ hashOf name → (j : ℕ) → j < n → (getD hashes j 0 ≡ h → ⊥) → same (nameAt all places j) name ≡ false
+  hash-tells hashes n h names is j lt other = other-hash (nameAt all places j) name (λ e. other (names .hashed j lt ∙ e ∙ sym is))
 
+  module _ (marks hashes : List ℕ) (n h : ℕ) (noted : Noted all marks places hashes n) (is : h ≡ hashOf name) where
     -- a bit that is not set tells that every earlier name is another
     pub unmarked : (high : Bool) {b q : ℕ} → b ≡ markByte high (length marks) h → q ≡ markBit high h → bitAnd (getD marks b 0) q ≡ 0
         → oneOf (namesAt all places n) name ≡ false
@@ -265,7 +265,7 @@ module _ (all : List Token) (marks places hashes : List ℕ) (n p h : ℕ) where
     hashed′ j lt =
         ⊎-elim
         (λ (e : j ≡ n). rw e (getD-set-same hashes n h 0 room′ ∙ is ∙ ap hashOf (sym newest)))
-        (λ (l : j < n). getD-set-other hashes n j h 0 (λ e. apart j n l e) ∙ noted .hashed j l ∙ ap hashOf (sym (earlier j l)))
+        (λ (l : j < n). getD-set-other hashes n j h 0 (λ e. apart j n l e) ∙ noted .names .hashed j l ∙ ap hashOf (sym (earlier j l)))
         (eq-or-lt-of-le (down j n lt))
       where
         apart : (j n : ℕ) → j < n → j ≡ n → ⊥
@@ -290,10 +290,8 @@ module _ (all : List Token) (marks places hashes : List ℕ) (n p h : ℕ) where
     unfolding namesAt
     noted-more = (
       record {
-        placed = rw length-set room;
-        stored = rw length-set room′;
+        names = record { placed = rw length-set room; stored = rw length-set room′; hashed = hashed′ };
         halves = rw (length-mark marks h) (noted .halves);
-        hashed = hashed′;
         marked = λ high j lt. rw (length-mark marks h) (marked′ high j lt);
       },
       rw (newest, earlier-names n (omega arith)),

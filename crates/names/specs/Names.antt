@@ -1,5 +1,4 @@
--- Names of macros, fns and tests behind one another: the places that are remembered, and what lets the code answer "no earlier one has this name" without
--- looking at each.
+-- Names that are remembered by the places of their tokens, and what lets the code answer "none of them is this name" without looking at each.
 use Prim.Native.Nat.{ℕ, zero, suc, _+_, _-_, _*_, _/_, _%_, _^_, _≤_, _<_}
 use mathlib.Core.Path.{_≡_}
 use mathlib.Core.Bool.{Bool, true, false}
@@ -68,12 +67,16 @@ unfoldable pub namesAt : List Token → List ℕ → ℕ → List (List ℕ)
 namesAt all places zero = []
 namesAt all places (suc n) = nameAt all places n ∷ namesAt all places n
 
--- what stands beside n remembered places: the hash of each name, and both bits of each, which are set. Of other bits nothing is said
-pub record Noted (all : List Token) (marks places hashes : List ℕ) (n : ℕ) : Type 0 where
+-- what stands beside n remembered places: the hash of each name
+pub record Remembered (all : List Token) (places hashes : List ℕ) (n : ℕ) : Type 0 where
   pub placed : n ≤ length places
   pub stored : n ≤ length hashes
-  pub halves : 2 ≤ length marks
   pub hashed : (j : ℕ) → j < n → getD hashes j 0 ≡ hashOf (nameAt all places j)
+
+-- and both marks of each, which are set. Of other bits nothing is said
+pub record Noted (all : List Token) (marks places hashes : List ℕ) (n : ℕ) : Type 0 where
+  pub names : Remembered all places hashes n
+  pub halves : 2 ≤ length marks
   pub marked : (high : Bool) (j : ℕ) → j < n →
       0 < bitAnd (getD marks (markByte high (length marks) (hashOf (nameAt all places j))) 0) (markBit high (hashOf (nameAt all places j)))
 
@@ -83,7 +86,7 @@ Noting true all name places n marks′ places′ hashes′ n′ = Unit {0}
 Noting false all name places n marks′ places′ hashes′ n′ =
     Noted all marks′ places′ hashes′ n′ × (namesAt all places′ n′ ≡ name ∷ namesAt all places n)
 
--- what the test of a name promises: whether an earlier one is the same, and what is remembered then
+-- what the test of a name promises: whether a remembered one is the same, and what is remembered then
 pub record Checked (all : List Token) (name places : List ℕ) (n : ℕ) (r : Bool) (marks′ places′ hashes′ : List ℕ) : Type 0 where
   pub is : r ≡ oneOf (namesAt all places n) name
   pub then : Noting r all name places n marks′ places′ hashes′ (suc n)

@@ -1,9 +1,10 @@
-// Names of macros, fns and tests: the Rust's `check_duplicate`, byte for byte.
+// A list of remembered names: is a new one among them, byte for byte? The Rust's `check_duplicate_macro`, over any list of places: who asks decides which tokens are
+// remembered, macros' names or labels.
 //
-// A walk over all earlier names for each macro would make the time grow with the square of their number. So each earlier name leaves two marks, a bit by the
-// low bits of its hash and a bit by the high ones, and where one of a new name's two is not set, no earlier one is the same. Only where both are
-// set are the earlier names walked, and of those only the bytes of a name with the same hash are compared. With one mark for each name a new name would meet
-// another's too often; that it meets one in both halves is rare. The marks need not be clear at the start: a wrong one costs a walk, and no answer.
+// A walk over all remembered names for each new one would make the time grow with the square of their number. So each leaves two marks, a bit by the low bits of
+// its hash and a bit by the high ones, and where one of a new name's two is not set, no remembered one is the same. Only where both are set are the names walked,
+// and of those only the bytes of a name with the same hash are compared. With one mark for each name a new name would meet another's too often; that it meets one
+// in both halves is rare. The marks need not be clear at the start: a wrong one costs a walk, and no answer.
 use tokens::same_name;
 use tokens::text_at;
 ghost use Prim.Native.Nat.{_+_, _%_, _^_, _≤_, _<_};
@@ -13,7 +14,7 @@ ghost use lib.ListN.{length, drop, set};
 ghost use Rattle.tokens.specs.Number.{mostTokens};
 ghost use Rattle.tokens.specs.Token.{view, tokenAt, Numbered};
 ghost use Rattle.tokens.specs.Name.{oneOf};
-ghost use Rattle.names.specs.Names.{mixed, fourAt, restOf, hashOf, markByte, mark, namesAt, Noted, Checked};
+ghost use Rattle.names.specs.Names.{mixed, fourAt, restOf, hashOf, markByte, mark, namesAt, Remembered, Noted, Checked};
 
 // A number mixed into the next hash: what stands in the low bits reaches the high ones by the product, and what stands in the high bits of it reaches
 // the low ones by the quotient. Both moduli and the divisor are powers of two, so that they cost no division.
@@ -97,13 +98,12 @@ fn is_remembered(
     kept: &[u32],
     name: &[u8],
     h: u32,
-    marks: &[u8],
     places: &[u32],
     hashes: &[u32],
     n: usize,
 ) -> bool
     requires { ⌜ Numbered (now tokens) (now kept) ⌝ }
-    requires { ⌜ Noted (view (now text) (now tokens) (now kept)) (now marks) (now places) (now hashes) n ⌝ }
+    requires { ⌜ Remembered (view (now text) (now tokens) (now kept)) (now places) (now hashes) n ⌝ }
     requires { ⌜ h ≡ hashOf (now name) ⌝ }
     ensures { λ r. ⌜ r ≡ oneOf (namesAt (view (now (text .entry)) (now (tokens .entry)) (now (kept .entry))) (now (places .entry)) n) (now (name .entry)) ⌝ }
 {
@@ -144,7 +144,7 @@ fn is_repeated(
     if marks[high] & bit_of(h / 65536) == 0 {
         return false;
     }
-    is_remembered(text, tokens, kept, name, h, marks, places, hashes, n)
+    is_remembered(text, tokens, kept, name, h, places, hashes, n)
 }
 
 // The name at place p, whose hash is h, is number n from now on.
@@ -163,7 +163,7 @@ fn remember(p: usize, h: u32, marks: &mut [u8], places: &mut [u32], hashes: &mut
     hashes[n] = h;
 }
 
-// Whether one of n earlier macros, fns and tests has the name at place p; if none has, it is remembered as the next.
+// Whether one of n remembered names is the name at place p; if none is, it is remembered as the next.
 pub fn check_duplicate(
     text: &[u8],
     tokens: &[u32],

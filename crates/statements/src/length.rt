@@ -9,7 +9,8 @@ use tokens::significant_bytes;
 use tokens::text_at;
 ghost use mathlib.Core.Path.{_≡_};
 ghost use mathlib.Core.Bool.{_&&_, not};
-ghost use Prim.Native.Nat.{_≤_};
+ghost use Prim.Native.Nat.{ℕ, _≤_};
+ghost use mathlib.Core.List.{List};
 ghost use lib.Dec.{eqb};
 ghost use Rattle.tokens.specs.Token.{view, tokenAt, KindAt, Numbered};
 ghost use Rattle.tokens.specs.Place.{Place};
@@ -51,10 +52,10 @@ fn token_bytes(text: &[u8], tokens: &[u32], kept: &[u32], n: usize, p: usize, k:
 }
 
 // The bytes that it asks of a literal directly after it: those of a value push, where a push takes its literal.
-fn awaited_behind(text: &[u8], tokens: &[u32], kept: &[u32], takes: bool, p: usize, k: u32) -> usize
+fn awaited_behind(tokens: &[u32], kept: &[u32], takes: bool, p: usize, k: u32) -> usize
     requires { ⌜ Numbered (now tokens) (now kept) ⌝ }
     requires { ⌜ KindAt (now tokens) (now kept) p k ⌝ }
-    ensures { λ r. ⌜ r ≡ awaitedBehind takes (tokenAt (view (now (text .entry)) (now (tokens .entry)) (now (kept .entry))) p) ⌝ }
+    ensures { λ r. ⌜ ((text : List ℕ) → r ≡ awaitedBehind takes (tokenAt (view text (now (tokens .entry)) (now (kept .entry))) p)) ⌝ }
     ensures { λ r. ⌜ r ≤ 32 ⌝ }
 {
     if !takes {
@@ -98,7 +99,7 @@ pub fn plain_length(text: &[u8], tokens: &[u32], kept: &[u32], start: usize) -> 
             return number::NO_LENGTH;
         }
         bytes += token_bytes(text, tokens, kept, awaited, p, k);
-        awaited = awaited_behind(text, tokens, kept, takes, p, k);
+        awaited = awaited_behind(tokens, kept, takes, p, k);
         takes = takes_behind(takes, k);
         p += 1;
     }

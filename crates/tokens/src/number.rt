@@ -139,3 +139,6 @@ pub const ARGUMENT_WIDTH: usize = 7;
 pub const MOST_BYTES: usize = 1048576;
 
 pub const MOST_TOKENS: usize = 65536;
+
+// The largest opcode byte.
+pub const MOST_BYTE: u32 = 255;

@@ -24,25 +24,25 @@ angled-rest-requires c κs = search needs
 
 returns : tie.Need-returns
 unfolding choose
-returns c = whole (reads (call-at _ _ 0 40 (kind-is (c .before .before .before .before .before .before .args .text .now) _ (c .before .before .kind-at .ensures) refl ∙ c .before .match .keys1)) (answers (c .one-token .ensures) (omega arith) (omega arith)))
+returns c text = whole (reads (call-at _ _ 0 40 (kind-is text _ (c .before .before .kind-at .ensures) refl ∙ c .before .match .keys1)) (answers (c .one-token .ensures) (omega arith) (omega arith)))
 
 returns-2 : tie.Need-returns-2
 unfolding choose
-returns-2 c = whole (reads (call-at _ _ 0 38 (kind-is (c .before .before .before .before .before .before .args .text .now) _ (c .before .before .kind-at .ensures) refl ∙ c .before .match .keys2)) (answers (c .one-token2 .ensures) (omega arith) (omega arith)))
+returns-2 c text = whole (reads (call-at _ _ 0 38 (kind-is text _ (c .before .before .kind-at .ensures) refl ∙ c .before .match .keys2)) (answers (c .one-token2 .ensures) (omega arith) (omega arith)))
 
 returns-3 : tie.Need-returns-3
 unfolding choose
-returns-3 c = whole (reads (call-at _ _ 0 23 (kind-is (c .before .before .before .before .before .before .args .text .now) _ (c .before .before .kind-at .ensures) refl ∙ c .before .match .keys3)) (answers (c .one-token3 .ensures) (omega arith) (omega arith)))
+returns-3 c text = whole (reads (call-at _ _ 0 23 (kind-is text _ (c .before .before .kind-at .ensures) refl ∙ c .before .match .keys3)) (answers (c .one-token3 .ensures) (omega arith) (omega arith)))
 
 returns-4 : tie.Need-returns-4
 unfolding choose
-returns-4 c = whole (reads (call-at _ _ 0 33 (kind-is (c .before .before .before .before .before .before .args .text .now) _ (c .before .before .kind-at .ensures) refl ∙ c .before .match .keys4)) (rest (c .angled-rest .ensures (c .before .before .before .before .before .before .args .text .now))))
+returns-4 c text = whole (reads (call-at _ _ 0 33 (kind-is text _ (c .before .before .kind-at .ensures) refl ∙ c .before .match .keys4)) (rest (c .angled-rest .ensures text)))
 
 returns-5 : tie.Need-returns-5
-returns-5 c =
-    let args = c .before .before .before .before .before .args in
+returns-5 c text =
+    let args = c .before .before .before .before .args in
     let no = c .match .rest in
-    whole (reads (call-other _ _ 0 _ (kind-is (args .text .now) _ (c .before .kind-at .ensures) refl) (no .0 .0 .0 .1, (no .0 .0 .1, (no .0 .1, (no .1, tt))))) (refuses _ _ _ 10 refl))
+    whole (reads (call-other _ _ 0 _ (kind-is text _ (c .before .kind-at .ensures) refl) (no .0 .0 .0 .1, (no .0 .0 .1, (no .0 .1, (no .1, tt))))) (refuses _ _ _ 10 refl))
 
 pub call-argument-spec : {M : Type 1} → statement M
 call-argument-spec =

@@ -42,7 +42,7 @@ unfolding callArgument
 returns c =
     let args = c .before .before .before .before .before .before .args in
     let all = view (args .text .now) (args .tokens .now) (args .kept .now) in
-    sorted (args .names) (drop (args .p) all) (c .before .enum-told .given .1) (c .call-argument .ensures)
+    sorted (args .names) (drop (args .p) all) (c .before .enum-told .given .1) (c .call-argument .ensures (args .text .now))
 
 returns-2 : tie.Need-returns-2
 returns-2 c =

@@ -1,4 +1,3 @@
-
 use borrow.Author.Needs.{needs}
 use Rattle.simmerotter.proofs.values.body_values.Statement.{statement}
 use Rattle.simmerotter.proofs.values.body_values.Tie as tie

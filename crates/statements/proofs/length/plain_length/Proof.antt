@@ -81,7 +81,7 @@ loop-again c =
     let yes = sym (c .before .before .before .before .is-plain .ensures) ∙ not-false (c .before .before .before .before .is-plain .result) (c .before .before .before .if2 .left) in
     let some = plain-some (c .before .before .before .before .before .before .kind-at .result) yes in
     let on = length-goes (w .takes) (w .awaited) (w .bytes) (w .p) all (test-no here (c .before .before .before .before .before .if1 .left)) (rw here at yes) in
-    (rw (c .takes-behind .ensures, c .before .awaited-behind .ensures .0, c .before .before .token-bytes .ensures .0, here) (sym on ∙ w .inv .0), c .before .awaited-behind .ensures .1, omega (arith, w .inv .2, c .before .before .token-bytes .ensures .1), omega (arith, c .before .before .before .before .before .before .kind-at .ensures .inside, some))
+    (rw (c .takes-behind .ensures, c .before .awaited-behind .ensures .0 (now (a .text)), c .before .before .token-bytes .ensures .0, here) (sym on ∙ w .inv .0), c .before .awaited-behind .ensures .1, omega (arith, w .inv .2, c .before .before .token-bytes .ensures .1), omega (arith, c .before .before .before .before .before .before .kind-at .ensures .inside, some))
 
 pub plain-length-spec : {M : Type 1} → statement M
 plain-length-spec =
