@@ -9,7 +9,8 @@ use mathlib.Core.Logic.{_⊎_, inl, inr, ⊎-elim}
 use borrow.Author.Tests.{eq-eqb, ne-eqb}
 use lib.Dec.{eqb}
 use lib.ListN.{length, drop, length-append, length-map}
-use Rattle.tokens.specs.Token.{Token, tokenAt, view, KindAt}
+use Rattle.tokens.specs.Token.{Token, tokenAt, view}
+use Rattle.tokens.specs.Place.{KindAt}
 use Rattle.tokens.specs.Number.{statementWidth, argumentWidth}
 use Rattle.tokens.specs.Lent.{putAll}
 use Rattle.tokens.specs.Kind.{Macro, Fn, Test, Takes, Returns, Assign, OpenParen, CloseParen, OpenBrace, CloseBrace}

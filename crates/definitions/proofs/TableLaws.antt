@@ -10,7 +10,8 @@ use mathlib.Core.Logic.{_⊎_, inl, inr, ⊎-elim}
 use borrow.Author.Tests.{eq-eqb, ne-eqb, eqb-true}
 use lib.Dec.{eqb}
 use lib.ListN.{length, drop, length-take, drop-of-length-le}
-use Rattle.tokens.specs.Token.{Token, tokenAt, view, kindAt, KindAt, startAt, endAt, textAt}
+use Rattle.tokens.specs.Token.{Token, tokenAt, view}
+use Rattle.tokens.specs.Place.{kindAt, KindAt, startAt, endAt, textAt, Lined}
 use Rattle.tokens.specs.Number.{InvalidDefinition, statementWidth}
 use Rattle.tokens.specs.Lent.{put, putAll}
 use Rattle.tokens.specs.Kind.{JumpTable, JumpTablePacked, CodeTable, Ident, OpenParen, CloseParen, OpenBrace, CloseBrace, Assign}
@@ -31,7 +32,6 @@ use Rattle.definitions.specs.declared.table.TableKind.{TableKind}
 use Rattle.definitions.specs.declared.table.TableKind.the-variants.{Jump, Packed, Code}
 use Rattle.definitions.specs.declared.table.Entries.{Entries}
 use Rattle.definitions.specs.declared.table.Entries.the-variants as entries
-use Rattle.tokens.specs.Place.{Lined}
 use Rattle.definitions.specs.Answers.{isNamed, DefParsed}
 use Rattle.definitions.specs.Behind.{formed, behindName}
 use Rattle.definitions.specs.Tables.{tableSort, tableKind, sizeWith, pastSign, pastSigns, entriesFrom, EntriesRead, tableOf}

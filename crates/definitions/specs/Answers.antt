@@ -1,4 +1,4 @@
--- How the code's answers and tables hold what the reader of a definition reads.
+-- Inner: how the code's answers and tables hold what the reader of a definition reads.
 use Prim.Native.Nat.{ℕ, _+_, _≤_, _<_}
 use mathlib.Core.Path.{_≡_}
 use mathlib.Core.Bool.{Bool, true, false, _&&_}

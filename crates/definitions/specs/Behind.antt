@@ -1,4 +1,4 @@
--- A definition from the place behind its name on.
+-- Inner: a definition from the place behind its name on.
 use Prim.Native.Nat.{ℕ}
 use mathlib.Core.List.{List}
 use lib.ListN.{drop}

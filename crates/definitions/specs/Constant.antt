@@ -1,4 +1,4 @@
--- What the parts of a constant's reader promise.
+-- Inner: what the parts of a constant's reader promise.
 use Prim.Native.Nat.{ℕ, _+_, _≤_}
 use mathlib.Core.Path.{_≡_}
 use mathlib.Core.List.{List}

@@ -1,5 +1,5 @@
--- What the promises of the definition layer mean. The grammar of a file and its reader stand in the crate `grammar`; here is how the code's answers and tables
--- hold them: Answers for what other crates see, the others for the pieces.
+-- What the inner promises of the definition layer mean: how the code's answers and tables hold what the grammar's readers read. Answers for what the crate above
+-- cites, the others for the pieces.
 pub mod Answers
 pub mod Pieces
 pub mod Constant

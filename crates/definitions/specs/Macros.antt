@@ -1,4 +1,4 @@
--- How the parts of a macro, fn or test are read, and what the code's answers for them say.
+-- Inner: how the parts of a macro, fn or test are read, and what the code's answers for them say.
 use Prim.Native.Nat.{ℕ, _+_, _≤_}
 use mathlib.Core.Path.{_≡_}
 use mathlib.Core.Bool.{cond}

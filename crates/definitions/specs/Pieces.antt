@@ -1,4 +1,4 @@
--- What the parts of a definition's reader promise: its head, its signature, its record.
+-- Inner: what the parts of a definition's reader promise: its head, its signature, its record.
 use Prim.Native.Nat.{ℕ, suc, _+_, _-_, _*_, _≤_, _<_}
 use mathlib.Core.Path.{_≡_}
 use mathlib.Core.Bool.{false, cond}

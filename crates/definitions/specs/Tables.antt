@@ -1,4 +1,4 @@
--- How the parts of a table are read, and what the code's answers for them say.
+-- Inner: how the parts of a table are read, and what the code's answers for them say.
 use Prim.Native.Nat.{ℕ, suc, _+_, _*_, _/_, _≤_, _<_}
 use mathlib.Core.Path.{_≡_}
 use mathlib.Core.Bool.{cond}
@@ -6,7 +6,8 @@ use mathlib.Core.List.{List}
 use lib.Dec.{leb, eqb}
 use lib.ListN.{length}
 use Rattle.tokens.specs.Number.{InvalidTableBodyToken, statementWidth, mostBytes, mostTokens}
-use Rattle.tokens.specs.Token.{Token, kindAt}
+use Rattle.tokens.specs.Token.{Token}
+use Rattle.tokens.specs.Place.{kindAt}
 use Rattle.tokens.specs.Kind.{JumpTable, JumpTablePacked, OpenParen, CloseParen, CloseBrace, Assign}
 use Rattle.grammar.specs.Result.{plain, number, beyond, Res, got, bad, expect, seq}
 use Rattle.grammar.specs.FileReading.{TableSort, jumpTable, packedTable, codeTable, TableEntry, digitTotal}

@@ -2,9 +2,8 @@
 use Prim.Native.Nat.{ℕ, _+_, _-_, _/_, _≤_, _<_}
 use mathlib.Core.Path.{_≡_, refl, sym, ap, _∙_}
 use mathlib.Core.Bool.{true}
-use mathlib.Core.List.{List, [], flatten}
+use mathlib.Core.List.{List, []}
 use native.Mathlib.Omega.{arith}
-use native.Mathlib.Nat.{sub-zero}
 use borrow.Author.Tests.{lt-ltb, le-ltb}
 use lib.ListN.{length, replicate, take}
 use Rattle.tokens.specs.Number.{definitionWidth, statementWidth, argumentWidth}
@@ -30,14 +29,10 @@ use Rattle.files.specs.declared.entry.File.the-variants as answers
 use Rattle.files.specs.Answers.{FileParsed}
 use Rattle.files.specs.Call.{settled, FileCall}
 use Rattle.files.specs.Taken.{FileTaken}
+use Rattle.statements.proofs.EntryLaws.{filled-none}
 use Rattle.files.proofs.RecordLaws.{definition-count, statement-count, argument-count, definition-wide, statement-wide, argument-wide}
 
 -- ---- tables
-
--- only zeros
-pub filled-none : (n : ℕ) → filled n [] ≡ replicate n 0
-unfolding flatten
-filled-none n = ap (λ (k : ℕ). replicate k 0) (sub-zero n)
 
 -- the table t was zeroed to z
 abbrev pub Zeroed : List ℕ → List ℕ → Type 0

@@ -1,4 +1,4 @@
--- What reading behind the door promises.
+-- Inner: what reading behind the door promises.
 use mathlib.Core.Path.{_≡_}
 use mathlib.Core.List.{List}
 use Prim.Native.Nat.{ℕ}

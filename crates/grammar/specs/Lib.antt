@@ -1,5 +1,5 @@
 -- The grammar of a body and of a file, and all that is said of them, in the order of document 01. A reader has to believe these files and nothing else of the
--- crate; of Result, Reader, Typed and FileReader only that they compute: what they answer is proved to be what the others say.
+-- crate; of Result, Reader, Typed and FileReader only that they compute: what they answer is proved to be what the others say. Written is cited by inner functions alone.
 pub mod Reading
 pub mod Rules
 pub mod Grammar
@@ -19,5 +19,5 @@ pub mod FileFollows
 pub mod FileMeans
 pub mod FileCases
 pub mod Typed
-pub mod Written
 pub mod Call
+pub mod Written

@@ -1,4 +1,4 @@
--- How a lent table holds what a reader reads, and how a refusal is told.
+-- Inner: how a lent table holds what a reader reads, and how a refusal is told.
 use Prim.Native.Nat.{ℕ, _+_}
 use mathlib.Core.Path.{_≡_}
 use mathlib.Core.List.{List}

@@ -10,7 +10,8 @@ use borrow.Author.Tests.{eq-eqb, ne-eqb}
 use lib.ListN.{drop}
 use lib.Dec.{eqb}
 use Rattle.tokens.specs.Kind.{Calldata, Memory, Storage, Indexed, Ident, RightAngle, PrimitiveType}
-use Rattle.tokens.specs.Token.{Token, tokenAt, view, textAt}
+use Rattle.tokens.specs.Token.{Token, tokenAt, view}
+use Rattle.tokens.specs.Place.{textAt}
 use Rattle.tokens.specs.Name.{reserved}
 use Rattle.tokens.proofs.TokenLaws.{view-text}
 use Rattle.grammar.specs.Grammar.{odd, allowed}

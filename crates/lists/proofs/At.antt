@@ -6,7 +6,8 @@ use mathlib.Core.List.{List, [], _∷_}
 use borrow.Author.Tests.{eq-eqb, ne-eqb, le-ltb}
 use lib.ListN.{drop, length, drop-of-length-le}
 use lib.Dec.{eqb}
-use Rattle.tokens.specs.Token.{Token, eofToken, tokenAt, view, KindAt, kindAt, fieldAt}
+use Rattle.tokens.specs.Token.{Token, eofToken, tokenAt, view}
+use Rattle.tokens.specs.Place.{KindAt, kindAt, fieldAt}
 use Rattle.tokens.proofs.TokenLaws.{view-kind}
 use Rattle.grammar.specs.Result.{Why, Res, bad, Step, refuse, on, stepped, oneMore, look, choose, expect, many}
 use Rattle.grammar.proofs.AtPlace.{look-at, many-refuses, many-runs-out}

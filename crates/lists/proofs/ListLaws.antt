@@ -10,7 +10,8 @@ use borrow.Author.Tests.{eq-eqb, ne-eqb}
 use lib.Dec.{eqb}
 use lib.ListN.{length, drop, length-map}
 use Rattle.tokens.specs.Kind.{CloseParen, Comma}
-use Rattle.tokens.specs.Token.{Token, tokenAt, view, KindAt}
+use Rattle.tokens.specs.Token.{Token, tokenAt, view}
+use Rattle.tokens.specs.Place.{KindAt}
 use Rattle.tokens.specs.Lent.{put, putAll}
 use Rattle.tokens.proofs.TokenLaws.{view-length}
 use Rattle.tokens.proofs.LentLaws.{put-length}

@@ -1,4 +1,4 @@
--- How the code's answers and tables hold what the reader reads: arguments, lists, a number in parentheses.
+-- Inner: how the code's answers and tables hold what the reader reads: arguments, lists, a number in parentheses.
 use Prim.Native.Nat.{ℕ, suc, _+_, _≤_, _<_}
 use mathlib.Core.Path.{_≡_}
 use mathlib.Core.Bool.{true, false}

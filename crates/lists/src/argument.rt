@@ -10,12 +10,11 @@ ghost use mathlib.Core.Path.{_≡_};
 ghost use lib.ListN.{length};
 ghost use Rattle.tokens.specs.Number.{mostTokens};
 ghost use Rattle.tokens.specs.Kind.{Ident};
-ghost use Rattle.tokens.specs.Token.{kindAt};
+ghost use Rattle.tokens.specs.Place.{kindAt, Place, tokensFrom};
 ghost use Rattle.grammar.specs.Reading.{NONE, oneToken, angled};
 ghost use Rattle.grammar.specs.Result.{got, oneMore, look, seq};
 ghost use Rattle.grammar.specs.Reader.{callArgument, builtinArgument, nameArgument, nameStep};
 ghost use Rattle.grammar.specs.Typed.{declared, indexedHere, typedName, typedArgument};
-ghost use Rattle.tokens.specs.Place.{Place, tokensFrom};
 ghost use Rattle.lists.specs.Answers.{argAnswer, ArgRead, RestRead, named, angledRest, typedRest, one};
 
 // An argument's seven words.

@@ -14,7 +14,8 @@ use lib.Pow.{pow-pos}
 use lib.Bits.{bitAnd, bitOr, and-step, or-step, or-shr, and-le-r, and-self}
 use lib.ListN.{length, getD, drop, set, length-set, length-drop, drop-of-length-le}
 use lib.Seq.{drop-cons, getD-set-same, getD-set-other}
-use Rattle.tokens.specs.Token.{Token, tokenAt, view, textAt}
+use Rattle.tokens.specs.Token.{Token, tokenAt, view}
+use Rattle.tokens.specs.Place.{textAt}
 use Rattle.tokens.specs.Byte.{same}
 use Rattle.tokens.specs.Name.{oneOf}
 use Rattle.tokens.proofs.NameLaws.{same-equal}

@@ -1,4 +1,4 @@
--- Names that are remembered by the places of their tokens, and what lets the code answer "none of them is this name" without looking at each.
+-- Inner: names that are remembered by the places of their tokens, and what lets the code answer "none of them is this name" without looking at each.
 use Prim.Native.Nat.{ℕ, zero, suc, _+_, _-_, _*_, _/_, _%_, _^_, _≤_, _<_}
 use mathlib.Core.Path.{_≡_}
 use mathlib.Core.Bool.{Bool, true, false}

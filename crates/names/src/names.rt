@@ -12,7 +12,8 @@ ghost use mathlib.Core.Path.{_≡_};
 ghost use mathlib.Core.Bool.{true, false};
 ghost use lib.ListN.{length, drop, set};
 ghost use Rattle.tokens.specs.Number.{mostTokens};
-ghost use Rattle.tokens.specs.Token.{view, tokenAt, Numbered};
+ghost use Rattle.tokens.specs.Token.{view, tokenAt};
+ghost use Rattle.tokens.specs.Place.{Numbered};
 ghost use Rattle.tokens.specs.Name.{oneOf};
 ghost use Rattle.names.specs.Names.{mixed, fourAt, restOf, hashOf, markByte, mark, namesAt, Remembered, Noted, Checked};
 

@@ -11,7 +11,8 @@ use lib.Dec.{eqb}
 use borrow.Author.Tests.{ne-eqb, eqb-true, eqb-false}
 use Rattle.tokens.specs.Number.{statementWidth}
 use Rattle.tokens.specs.Kind.{Label, CloseBrace, Colon, OpenBrace}
-use Rattle.tokens.specs.Token.{Token, tokenAt, view, kindAt, KindAt}
+use Rattle.tokens.specs.Token.{Token, tokenAt, view}
+use Rattle.tokens.specs.Place.{kindAt, KindAt}
 use Rattle.tokens.specs.Lent.{put, putAll}
 use Rattle.tokens.proofs.TokenLaws.{view-kind, view-length}
 use Rattle.tokens.proofs.LentLaws.{put-late}

@@ -47,9 +47,12 @@ all-wide w [] h = tt
 all-wide w (r ∷ rs) h = (h .0, all-wide w rs (h .1))
 
 -- no records
-none-left : (w : ℕ) (t u : List ℕ) → length u ≡ length t → clearedBehind w 0 u ≡ filled (length t) []
+pub filled-none : (n : ℕ) → filled n [] ≡ replicate n 0
 unfolding flatten
-none-left w t u same = cleared-none w u ∙ ap (λ (n : ℕ). replicate n 0) (same ∙ sym (sub-zero (length t)))
+filled-none n = ap (λ (k : ℕ). replicate k 0) (sub-zero n)
+
+none-left : (w : ℕ) (t u : List ℕ) → length u ≡ length t → clearedBehind w 0 u ≡ filled (length t) []
+none-left w t u same = cleared-none w u ∙ ap (λ (n : ℕ). replicate n 0) same ∙ sym (filled-none (length t))
 
 -- ---- the answer
 

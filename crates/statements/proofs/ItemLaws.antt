@@ -10,7 +10,8 @@ use borrow.Author.Tests.{not-true, not-false, eqb-true, eq-eqb, ne-eqb}
 use lib.Dec.{eqb}
 use lib.ListN.{length, drop}
 use Rattle.tokens.specs.Kind.{OpenParen, OpenBracket, CloseBracket, LeftAngle, RightAngle, Ident, Literal, Opcode, BuiltinFunction}
-use Rattle.tokens.specs.Token.{Token, tokenAt, view, kindAt}
+use Rattle.tokens.specs.Token.{Token, tokenAt, view}
+use Rattle.tokens.specs.Place.{kindAt}
 use Rattle.tokens.specs.Push.{isValuePush, fits}
 use Rattle.tokens.proofs.TokenLaws.{view-kind}
 use Rattle.statements.specs.declared.item.Progress.{Progress}

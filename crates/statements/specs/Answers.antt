@@ -1,4 +1,4 @@
--- How the code's answers and tables hold what the reader reads: statements and bodies.
+-- Inner: how the code's answers and tables hold what the reader reads: statements and bodies.
 use Prim.Native.Nat.{ℕ, _+_, _≤_}
 use mathlib.Core.Path.{_≡_}
 use mathlib.Core.List.{List, map, flatten}

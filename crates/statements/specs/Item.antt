@@ -1,4 +1,4 @@
--- One item: what its reader answers, and what its writers write.
+-- Inner: one item: what its reader answers, and what its writers write.
 use Prim.Native.Nat.{ℕ, suc, _+_, _-_, _≤_, _<_}
 use mathlib.Core.Path.{_≡_}
 use mathlib.Core.Bool.{Bool, cond, _&&_}

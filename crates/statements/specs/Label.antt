@@ -1,11 +1,11 @@
--- A label's two signs and its record, as their small functions read and write them.
+-- Inner: a label's two signs and its record, as their small functions read and write them.
 use Prim.Native.Nat.{ℕ, _+_, _-_}
 use mathlib.Core.Bool.{cond}
 use mathlib.Core.List.{List, [], _∷_}
 use lib.Dec.{eqb}
 use Rattle.tokens.specs.Kind.{Colon, Label}
 use Rattle.tokens.specs.Number.{UnexpectedType, InvalidTokenInMacroBody}
-use Rattle.tokens.specs.Token.{kindAt}
+use Rattle.tokens.specs.Place.{kindAt}
 use Rattle.grammar.specs.Records.{labelType}
 use Rattle.statements.specs.declared.item.Progress.{Progress}
 use Rattle.statements.specs.declared.item.Items.{Items}

@@ -1,4 +1,4 @@
--- The plain length as the code adds it up: over the tokens of an accepted body, one by one. That this is document 01's plain length of the body's reading
+-- Inner: the plain length as the code adds it up: over the tokens of an accepted body, one by one. That this is document 01's plain length of the body's reading
 -- is the theorem `length-is` (proofs/LengthLaws).
 use Prim.Native.Nat.{ℕ, suc, _+_}
 use mathlib.Core.Bool.{Bool, true, cond, not, _&&_, _||_}

@@ -1,4 +1,4 @@
--- How the entry's parts answer: the settling of what was read, and the reading of a body into the tables as they are lent.
+-- Inner: how the entry's parts answer: the settling of what was read, and the reading of a body into the tables as they are lent.
 use Prim.Native.Nat.{ℕ, _/_}
 use mathlib.Core.Path.{_≡_}
 use mathlib.Core.Bool.{cond}

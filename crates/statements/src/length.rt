@@ -12,8 +12,8 @@ ghost use mathlib.Core.Bool.{_&&_, not};
 ghost use Prim.Native.Nat.{ℕ, _≤_};
 ghost use mathlib.Core.List.{List};
 ghost use lib.Dec.{eqb};
-ghost use Rattle.tokens.specs.Token.{view, tokenAt, KindAt, Numbered};
-ghost use Rattle.tokens.specs.Place.{Place};
+ghost use Rattle.tokens.specs.Token.{view, tokenAt};
+ghost use Rattle.tokens.specs.Place.{KindAt, Numbered, Place};
 ghost use Rattle.statements.specs.Length.{plainKind, tokenBytes, awaitedBehind, lengthFrom};
 
 // A kind that a body with a length may have between its braces.

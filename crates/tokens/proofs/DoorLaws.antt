@@ -6,10 +6,9 @@ use borrow.Author.Tests.{not-true, ltb-true, ltb-false, leb-true, eqb-true, lt-l
 use lib.Dec.{ltb, leb, eqb}
 use mathlib.Core.List.{List, [], _∷_}
 use mathlib.Core.Logic.{⊎-elim}
-use native.Mathlib.Nat.{eq-or-lt-of-le}
+use native.Mathlib.Nat.{eq-or-lt-of-le, add-zero, sub-zero}
 use native.Mathlib.Omega.{arith}
 use native.Mathlib.Numerals.{add-one}
-use native.Mathlib.Nat.{add-zero, sub-zero}
 use lib.ListN.{length, getD, set}
 use lib.Seq.{sets, set-set}
 use Rattle.tokens.specs.Kind.{Eof, kinds}
@@ -19,7 +18,8 @@ use Rattle.tokens.specs.WellFormed.{goodAfter, good, badFrom, firstBad, 
 use Rattle.tokens.specs.declared.door.Door.{Door}
 use Rattle.tokens.specs.declared.door.Door.the-variants.{NotWellFormed, KeptTooShort, StartOutside, Ready}
 use Rattle.tokens.specs.Door.{door}
-use Rattle.tokens.specs.Kept.{dropped, keptFrom, keptOf, keepUnless, numbers, EofLast}
+use Rattle.tokens.specs.Kept.{dropped, keptFrom, keptOf, keepUnless}
+use Rattle.tokens.specs.Keep.{numbers, EofLast}
 use Rattle.tokens.proofs.Laws.{lt-or-le, left-step, left-none, and-left, and-right}
 
 -- ---- the first bad token

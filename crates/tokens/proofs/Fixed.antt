@@ -3,7 +3,7 @@ use Prim.Native.Nat.{ℕ}
 use mathlib.Core.Path.{_≡_, sym, ap, _∙_}
 use mathlib.Core.List.{List}
 use Rattle.tokens.specs.declared.door.Door.{Door}
-use Rattle.tokens.specs.Token.{KindAt}
+use Rattle.tokens.specs.Place.{KindAt}
 use Rattle.tokens.specs.Door.{Prepared, keptAfter}
 
 -- a promise that says what the answer is, or what a lent table holds afterwards: `r ≡ x`

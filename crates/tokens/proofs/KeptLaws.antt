@@ -5,7 +5,8 @@ use native.Mathlib.Omega.{arith}
 use mathlib.Core.Bool.{Bool, true, false}
 use mathlib.Core.List.{List, [], _∷_}
 use lib.ListN.{length, getD}
-use Rattle.tokens.specs.Token.{tokenCount, kindOf, Numbered}
+use Rattle.tokens.specs.Token.{tokenCount, kindOf}
+use Rattle.tokens.specs.Place.{Numbered}
 use Rattle.tokens.specs.Kept.{dropped, keepUnless, keptFrom, keptOf}
 
 -- of the numbers that are kept of `left` tokens from i on: each lies among those, and is less than the next

@@ -12,7 +12,8 @@ use lib.Dec.{ltb}
 use lib.ListN.{length, getD, take, drop, set, drop-of-length-le, length-drop, List·getD-eq-default, List·getD-map}
 use lib.Seq.{take-nil, take-all, drop-cons, sets}
 use Rattle.tokens.specs.Lent.{put, putAll}
-use Rattle.tokens.specs.Token.{Token, eofToken, part, tokenOf, view, tokenAt, fieldAt, kindAt, extraAt, textAt}
+use Rattle.tokens.specs.Token.{Token, eofToken, part, tokenOf, view, tokenAt}
+use Rattle.tokens.specs.Place.{fieldAt, kindAt, extraAt, textAt}
 
 -- ---- tests
 

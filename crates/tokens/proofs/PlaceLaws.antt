@@ -11,13 +11,13 @@ use lib.Dec.{leb, ltb, eqb}
 use lib.ListN.{length, getD, take, drop, length-append}
 use lib.Seq.{sets-eq, take-at}
 use Rattle.tokens.specs.Kind.{kinds}
-use Rattle.tokens.specs.Token.{tokenCount, kindOf, startOf, endOf, extraOf, fieldAt}
+use Rattle.tokens.specs.Token.{tokenCount, kindOf, startOf, endOf, extraOf}
+use Rattle.tokens.specs.Place.{fieldAt, Lined, FromDoor, Place}
 use Rattle.tokens.specs.WellFormed.{wholeGood, prevEnd, rangeGood, eofGood, contentsGood, goodAfter, good, WellFormed}
 use Rattle.tokens.specs.Kept.{keptOf}
 use Rattle.tokens.proofs.Laws.{and-left, and-right}
 use Rattle.tokens.proofs.KeptLaws.{kept-rising, kept-numbered}
 use Rattle.tokens.specs.Door.{keptAfter, Prepared}
-use Rattle.tokens.specs.Place.{Lined, FromDoor, Place}
 use Rattle.tokens.specs.declared.door.Door.{Door}
 use Rattle.tokens.specs.declared.door.Door.the-variants.{Ready}
 use Rattle.tokens.proofs.DoorLaws.{LetThrough, ready}

@@ -6,7 +6,8 @@ use mathlib.Core.Logic.{⊎-elim}
 use native.Mathlib.Nat.{add-zero, le-of-suc-le-suc, not-suc-le-zero}
 use borrow.Author.Tests.{lt-ltb, le-ltb}
 use lib.ListN.{length, getD, take, drop, length-map, List·getD-eq-default}
-use Rattle.tokens.specs.Token.{Token, eofToken, part, tokenOf, view, tokenAt, fieldAt, kindAt, extraAt, textAt}
+use Rattle.tokens.specs.Token.{Token, eofToken, part, tokenOf, view, tokenAt}
+use Rattle.tokens.specs.Place.{fieldAt, kindAt, extraAt, textAt}
 use Rattle.tokens.proofs.Laws.{lt-or-le}
 
 map-at : {A B : Type 0} (f : A → B) (l : List A) (p : ℕ) (d : B) (e : A) → p < length l → getD (map f l) p d ≡ f (getD l p e)

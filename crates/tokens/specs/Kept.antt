@@ -1,10 +1,9 @@
 -- Document 01: "Whitespace and Comment are dropped. The kept list receives the numbers of the other tokens in order".
-use Prim.Native.Nat.{ℕ, zero, suc, _+_, _<_}
-use mathlib.Core.Path.{_≡_}
+use Prim.Native.Nat.{ℕ, zero, suc, _+_}
 use mathlib.Core.Bool.{Bool, true, false, _||_}
 use mathlib.Core.List.{List, [], _∷_}
 use lib.Dec.{eqb}
-use Rattle.tokens.specs.Kind.{Eof, Whitespace, Comment}
+use Rattle.tokens.specs.Kind.{Whitespace, Comment}
 use Rattle.tokens.specs.Token.{tokenCount, kindOf}
 
 -- the kinds that are dropped
@@ -24,14 +23,3 @@ keptFrom words (suc left) i = keepUnless (dropped (kindOf words i)) i (keptFrom 
 -- what the kept list receives
 unfoldable pub keptOf : List ℕ → List ℕ
 keptOf words = keptFrom words (tokenCount words) 0
-
--- so many numbers from i on: what is kept of tokens of which none is dropped
-unfoldable pub numbers : ℕ → ℕ → List ℕ
-numbers i zero = []
-numbers i (suc left) = i ∷ numbers (i + 1) left
-
--- there is a last token, it is Eof, and no other is
-pub record EofLast (words : List ℕ) : Type 0 where
-  pub some : 0 < tokenCount words
-  pub last : (i : ℕ) → i + 1 ≡ tokenCount words → kindOf words i ≡ Eof
-  pub others : (i : ℕ) → i + 1 < tokenCount words → 0 < kindOf words i

@@ -1,4 +1,4 @@
--- Tables of records: w words a record, a record written only where the whole of it fits.
+-- Inner: tables of records: w words a record, a record written only where the whole of it fits.
 use Prim.Native.Nat.{ℕ, _+_, _-_, _*_, _/_}
 use mathlib.Core.Bool.{cond}
 use mathlib.Core.List.{List, [], _∷_, _++_}

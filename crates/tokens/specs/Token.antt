@@ -1,10 +1,7 @@
 -- A token as the grammar sees it, and how the lent words hold it: four a token, kind, start, end, extra.
-use Prim.Native.Nat.{ℕ, _+_, _-_, _*_, _/_, _≤_, _<_}
-use mathlib.Core.Path.{_≡_}
+use Prim.Native.Nat.{ℕ, _+_, _-_, _*_, _/_}
 use mathlib.Core.List.{List, [], map}
-use mathlib.Core.Bool.{cond}
 use lib.ListN.{length, getD, take, drop}
-use lib.Dec.{ltb}
 use Rattle.tokens.specs.Kind.{Eof}
 use Rattle.tokens.specs.Number.{tokenWidth}
 
@@ -51,32 +48,3 @@ view text words kept = map (tokenOf text words) kept
 -- the token at a place of a view, past its end an Eof
 abbrev pub tokenAt : List Token → ℕ → Token
 tokenAt tokens p = getD tokens p eofToken
-
--- every number of a kept list is that of a token
-pub record Numbered (words kept : List ℕ) : Type 0 where
-  pub below : (p : ℕ) → p < length kept → getD kept p 0 < tokenCount words
-
--- word j of the token at place p of the kept list, past its end 0: the kind (Eof there), the start, the end, the extra
-unfoldable pub fieldAt : ℕ → List ℕ → List ℕ → ℕ → ℕ
-fieldAt j words kept p = cond (ltb p (length kept)) (getD words (getD kept p 0 * tokenWidth + j) 0) 0
-
-abbrev pub kindAt : List ℕ → List ℕ → ℕ → ℕ
-kindAt = fieldAt 0
-
--- a kind read at a place, and the bound by which a kind that is not Eof's lies inside the kept list
-pub record KindAt (words kept : List ℕ) (p r : ℕ) : Type 0 where
-  pub is : r ≡ kindAt words kept p
-  pub inside : r ≤ 4294967295 * (length kept - p)
-
-abbrev pub startAt : List ℕ → List ℕ → ℕ → ℕ
-startAt = fieldAt 1
-
-abbrev pub endAt : List ℕ → List ℕ → ℕ → ℕ
-endAt = fieldAt 2
-
-abbrev pub extraAt : List ℕ → List ℕ → ℕ → ℕ
-extraAt = fieldAt 3
-
--- the bytes of the token at place p of the kept list
-abbrev pub textAt : List ℕ → List ℕ → List ℕ → ℕ → List ℕ
-textAt text words kept p = part text (startAt words kept p) (endAt words kept p)

@@ -1,5 +1,5 @@
 // The token layer: what is lent is tested at the door, tokens are read by their place, records are written where they fit.
-// Nothing here asks anything of its caller.
+// The accessors by place ask that the kept list is one that the door wrote; nothing else here asks anything of its caller.
 pub mod door;
 pub mod kind;
 pub mod lent;

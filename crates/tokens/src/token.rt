@@ -4,7 +4,8 @@ use crate::number;
 ghost use mathlib.Core.Path.{_≡_};
 ghost use Prim.Native.Nat.{_≤_, min};
 ghost use lib.ListN.{getD};
-ghost use Rattle.tokens.specs.Token.{fieldAt, startAt, endAt, extraAt, part, textAt, KindAt, Numbered};
+ghost use Rattle.tokens.specs.Token.{part};
+ghost use Rattle.tokens.specs.Place.{fieldAt, startAt, endAt, extraAt, textAt, KindAt, Numbered};
 
 // The word at an index, past the end 0.
 pub fn word_at(words: &[u32], i: usize) -> u32

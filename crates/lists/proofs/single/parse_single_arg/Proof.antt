@@ -2,7 +2,8 @@ use Prim.Native.Nat.{suc}
 use mathlib.Core.Path.{refl, sym, ap, _∙_}
 use native.Mathlib.Numerals.{add-one, add-two}
 use native.Mathlib.Omega.{arith}
-use Rattle.tokens.specs.Token.{view, extraAt}
+use Rattle.tokens.specs.Token.{view}
+use Rattle.tokens.specs.Place.{extraAt}
 use Rattle.tokens.proofs.TokenLaws.{view-extra}
 use Rattle.lists.proofs.At.{kind-is}
 use Rattle.lists.proofs.SingleLaws.{refuses, answers, unopened, no-number, unclosed, closed}

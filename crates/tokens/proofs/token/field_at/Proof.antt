@@ -1,5 +1,5 @@
 use native.Mathlib.Omega.{arith}
-use Rattle.tokens.specs.Token.{fieldAt}
+use Rattle.tokens.specs.Place.{fieldAt}
 use Rattle.tokens.proofs.Laws.{tests}
 use borrow.Author.Needs.{needs}
 use Rattle.tokens.proofs.token.field_at.Statement.{statement}
