@@ -135,3 +135,12 @@ def shown(text, words):
     else:
         out.append("...")
     return " ".join(out)
+
+
+def shown_case(line):
+    """A case as a line for people; a line that is no case as it is."""
+    case = rules.read_case(line.encode("latin-1"))
+    if isinstance(case, str):
+        return line
+    mode, start, lengths, text, words = case
+    return "%s %d lent %s | %s" % (mode, start, lengths, shown(text, words))

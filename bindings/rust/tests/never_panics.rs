@@ -2,7 +2,7 @@
 
 mod common;
 
-use common::{vectors, Chance, Lists, Source, Vector};
+use common::{cases, Case, Chance, Lists, Source};
 use simmerotter::{
     Argument, Body, Definition, DefinitionKind, File, Kind, Refusal, Refused, Room, Statement, TokenAt, MAX_TEXT, MAX_TOKENS,
 };
@@ -27,22 +27,22 @@ fn random_words_are_answered() {
 }
 
 #[test]
-fn mutated_vectors_are_answered() {
-    let vectors = vectors();
+fn mutated_cases_are_answered() {
+    let cases = cases();
     let mut chance = Chance::new(2);
     let mut room = Room::new();
     let mut tally = Tally::default();
     for _ in 0..MUTATED_LISTS {
-        let vector = &vectors[chance.below(vectors.len())];
-        let (text, tokens) = mutated(vector, &mut chance);
+        let case = &cases[chance.below(cases.len())];
+        let (text, tokens) = mutated(case, &mut chance);
         let start = match chance.below(3) {
-            0 => vector.start,
+            0 => case.start,
             1 => chance.below(tokens.len() + 1),
             _ => random_start(&mut chance),
         };
         tally.read_both(&mut room, &text, &tokens, start);
     }
-    println!("mutated vectors: {:?}", tally);
+    println!("mutated cases: {:?}", tally);
     assert_eq!(tally.calls, 2 * MUTATED_LISTS);
     // Lists that pass the door are most of what this test is about.
     assert!(tally.accepted > 1_000 && tally.refused_by_grammar > 5_000, "{:?}", tally);
@@ -68,9 +68,9 @@ fn random_start(chance: &mut Chance) -> usize {
     }
 }
 
-/// A vector's list with up to three changes; most of them leave it well formed.
-fn mutated(vector: &Vector, chance: &mut Chance) -> (Vec<u8>, Vec<u32>) {
-    let (mut text, mut tokens) = (vector.text.clone(), vector.tokens.clone());
+/// A case's list with up to three changes; most of them leave it well formed.
+fn mutated(case: &Case, chance: &mut Chance) -> (Vec<u8>, Vec<u32>) {
+    let (mut text, mut tokens) = (case.text.clone(), case.tokens.clone());
     for _ in 0..chance.below(4) {
         mutate(&mut text, &mut tokens, chance);
     }

@@ -2,7 +2,7 @@
 
 mod common;
 
-use common::{vectors, Lists, Source, Vector};
+use common::{cases, Case, Lists, Source};
 use simmerotter::Room;
 use std::sync::{Arc, Barrier};
 use std::thread;
@@ -24,15 +24,15 @@ fn four_threads_answer_like_one() {
 }
 
 fn assert_threads_answer_like_one(count: usize) {
-    let vectors = Arc::new(vectors());
-    let alone: Arc<Vec<Left>> = Arc::new(vectors.iter().map(Vector::call).collect());
+    let cases = Arc::new(cases());
+    let alone: Arc<Vec<Left>> = Arc::new(cases.iter().map(Case::call).collect());
     let start = Arc::new(Barrier::new(count));
     let threads: Vec<_> = (0..count)
         .map(|thread| {
-            let (vectors, alone, start) = (vectors.clone(), alone.clone(), start.clone());
+            let (cases, alone, start) = (cases.clone(), alone.clone(), start.clone());
             thread::spawn(move || {
                 start.wait();
-                compare(&vectors, &alone, thread * vectors.len() / count)
+                compare(&cases, &alone, thread * cases.len() / count)
             })
         })
         .collect();
@@ -41,12 +41,12 @@ fn assert_threads_answer_like_one(count: usize) {
     assert!(compared >= 3_000 * ROUNDS * count);
 }
 
-/// Starts at another vector in each thread, so that files and bodies of all sorts are read at the same time.
-fn compare(vectors: &[Vector], alone: &[Left], offset: usize) -> usize {
-    let order = (0..ROUNDS * vectors.len()).map(|index| (offset + index) % vectors.len());
+/// Starts at another case in each thread, so that files and bodies of all sorts are read at the same time.
+fn compare(cases: &[Case], alone: &[Left], offset: usize) -> usize {
+    let order = (0..ROUNDS * cases.len()).map(|index| (offset + index) % cases.len());
     order
         .map(|index| {
-            assert_eq!(vectors[index].call(), alone[index], "vector {}", vectors[index].line);
+            assert_eq!(cases[index].call(), alone[index], "line {}", cases[index].line);
         })
         .count()
 }

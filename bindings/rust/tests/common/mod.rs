@@ -1,4 +1,4 @@
-//! What the tests share: the fixed list of vectors, token lists written by hand, lent lists and chance.
+//! What the tests share: the fixed sample, token lists written by hand, lent lists and chance.
 
 #![allow(dead_code)]
 
@@ -6,13 +6,13 @@ use simmerotter::{push_token, raw, Kind, TOKEN_WORDS};
 use std::fs;
 use std::path::Path;
 
-/// What every lent word of a vector holds before the call.
+/// What every lent word of a case holds before the call.
 pub const FILL: u32 = 2_779_096_485;
 
-/// A vector of `crates/vectors/stdin`; docs/VECTORS.md has the format.
-pub struct Vector {
+/// A case of `crates/cases/stdin` with its answer in `crates/cases/stdout`; docs/CASES.md has the format.
+pub struct Case {
     pub line: usize,
-    pub section: u32,
+    pub section: String,
     pub is_body: bool,
     pub start: usize,
     pub text: Vec<u8>,
@@ -56,8 +56,8 @@ impl Lists {
     }
 }
 
-impl Vector {
-    /// Calls the archive with lists like the vector's own.
+impl Case {
+    /// Calls the archive with lists like the case's own.
     pub fn call(&self) -> ([u64; 5], Lists) {
         self.call_with(Lists::filled(self.wanted.lengths(), FILL))
     }
@@ -76,43 +76,64 @@ impl Vector {
     }
 }
 
-/// Every vector of the fixed list.
-pub fn vectors() -> Vec<Vector> {
-    let path = Path::new(env!("CARGO_MANIFEST_DIR")).join("../../crates/vectors/stdin");
-    let list = fs::read_to_string(&path).unwrap_or_else(|error| panic!("{}: {}", path.display(), error));
-    list.lines().enumerate().map(|(index, line)| vector(index + 1, line)).collect()
+/// Every case of the fixed sample: all of its lines but headings and those that are answered by a single word.
+pub fn cases() -> Vec<Case> {
+    let (lines, answers) = (sample("stdin"), sample("stdout"));
+    assert_eq!(lines.split('\n').count(), answers.lines().count(), "an answer to each line");
+    let mut section = "";
+    let mut cases = Vec::new();
+    for (index, (line, answer)) in lines.split('\n').zip(answers.lines()).enumerate() {
+        match line.strip_prefix("# ") {
+            Some(heading) => section = heading,
+            None if answer.starts_with("X_") => {}
+            None => cases.push(case(index + 1, section, line, answer)),
+        }
+    }
+    cases
 }
 
-fn vector(line: usize, numbers: &str) -> Vector {
-    let mut numbers = numbers.split(' ').map(|number| number.parse::<u32>().expect("a number of 32 bits"));
-    let section = next(&mut numbers);
-    let is_body = next(&mut numbers) == 1;
-    let start = next_size(&mut numbers);
-    let lengths = [(); 4].map(|()| next_size(&mut numbers));
-    let text = counted(&mut numbers).into_iter().map(|byte| u8::try_from(byte).expect("a byte")).collect();
-    let tokens = counted(&mut numbers);
-    let answer = [(); 5].map(|()| u64::from(next(&mut numbers)));
-    let [kept, definitions, statements, arguments] = lengths.map(|length| take(&mut numbers, length));
-    assert!(numbers.next().is_none(), "vector {} is too long", line);
+fn sample(name: &str) -> String {
+    let path = Path::new(env!("CARGO_MANIFEST_DIR")).join("../../crates/cases").join(name);
+    fs::read_to_string(&path).unwrap_or_else(|error| panic!("{}: {}", path.display(), error))
+}
+
+fn case(line: usize, section: &str, fields: &str, answer: &str) -> Case {
+    let fields: Vec<&str> = fields.split(' ').collect();
+    let parts: Vec<&str> = answer.split('|').collect();
+    assert_eq!((fields.len(), parts.len()), (8, 5), "fields and parts of line {}", line);
+    let five: Vec<u64> = parts[0].split(' ').map(|number| u64::from(word(number))).collect();
+    let [kept, definitions, statements, arguments] = [1, 2, 3, 4].map(|part| words(parts[part]));
     let wanted = Lists { kept, definitions, statements, arguments };
-    Vector { line, section, is_body, start, text, tokens, answer, wanted }
+    assert_eq!([2, 3, 4, 5].map(|field| size(fields[field])), wanted.lengths(), "lengths of line {}", line);
+    Case {
+        line,
+        section: section.to_string(),
+        is_body: fields[0] == "B",
+        start: size(fields[1]),
+        text: bytes(fields[6]),
+        tokens: words(fields[7]),
+        answer: five.try_into().expect("five numbers"),
+        wanted,
+    }
 }
 
-fn next(numbers: &mut impl Iterator<Item = u32>) -> u32 {
-    numbers.next().expect("a vector that is long enough")
+fn word(number: &str) -> u32 {
+    number.parse().expect("a number of 32 bits")
 }
 
-fn next_size(numbers: &mut impl Iterator<Item = u32>) -> usize {
-    usize::try_from(next(numbers)).expect("a size")
+fn size(number: &str) -> usize {
+    usize::try_from(word(number)).expect("a size")
 }
 
-fn take(numbers: &mut impl Iterator<Item = u32>, length: usize) -> Vec<u32> {
-    (0..length).map(|_| next(numbers)).collect()
+fn words(list: &str) -> Vec<u32> {
+    match list {
+        "" | "-" => Vec::new(),
+        _ => list.split(',').map(word).collect(),
+    }
 }
 
-fn counted(numbers: &mut impl Iterator<Item = u32>) -> Vec<u32> {
-    let length = next_size(numbers);
-    take(numbers, length)
+fn bytes(text: &str) -> Vec<u8> {
+    (0..text.len() / 2).map(|byte| u8::from_str_radix(&text[2 * byte..2 * byte + 2], 16).expect("two hex digits")).collect()
 }
 
 /// A text and its token list.
