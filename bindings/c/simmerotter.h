@@ -1,5 +1,6 @@
 /*
  * Simmerotter for C: reads the token list of a Huff file or of one macro body into tables that the caller lends.
+ * The repository's docs/RULES.md has the rules: what a token list holds, what is refused, what the records say.
  *
  * Before a call
  * - A list passes as a pointer and its length in elements: bytes of text, 32-bit words elsewhere. A token is four words.
@@ -157,7 +158,8 @@ enum simmerotter_kind {
     SIMMEROTTER_KIND_PRIMITIVE_TYPE = 45
 };
 
-/* The words of a definition's record. A "first" word is a record's number in its table, and means nothing more at count 0. */
+/* The words of a definition's record. A "first" word is a record's number in its table; at count 0 it is the number of such
+ * records before the point where its own would be written. */
 enum simmerotter_definition {
     SIMMEROTTER_DEFINITION_KIND = 0, /* one of simmerotter_definition_kind */
     SIMMEROTTER_DEFINITION_NAME = 1, /* a place; an import's is its Str */
@@ -201,7 +203,8 @@ enum simmerotter_value {
     SIMMEROTTER_VALUE_FREE_STORAGE_POINTER = 2
 };
 
-/* The words of a statement's record. A label's inner records follow it directly. */
+/* The words of a statement's record. A label's inner records follow it directly; "first inner" is the record's own number + 1,
+ * at count 0 too. */
 enum simmerotter_statement {
     SIMMEROTTER_STATEMENT_TYPE = 0, /* one of simmerotter_statement_type */
     SIMMEROTTER_STATEMENT_FIRST = 1,

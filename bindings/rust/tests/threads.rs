@@ -73,7 +73,8 @@ fn large_files_are_read_at_once() {
     assert_eq!(names(&source).len(), 2_000);
 }
 
-/// The documents speak of about 450 KB: a thread with half a megabyte has to do, or it would end by a fault.
+/// A call takes up to about 100 KB, and what the thread does besides comes on top. Half a megabyte has to do for both, or the
+/// thread would end by a fault.
 #[test]
 fn half_a_megabyte_of_stack_suffices() {
     let source = many_macros();

@@ -1,190 +1,132 @@
 // A line's answer: docs/CASES.md, "An answer". The entries are called as programs in other languages call them, so that a case tries those very functions.
+use crate::lend::Sizes;
+use crate::lend::first_bytes;
+use crate::lend::lent;
+use crate::lend::sizes_of;
+use crate::lend::tokens_of;
 use crate::line::Line;
-use crate::line::end_line;
-use crate::list::fill;
-use crate::list::least;
-use crate::output::put_end;
+use crate::line::REFUSED;
+use crate::output::OUT_ROOM;
+use crate::output::put_byte;
 use crate::output::put_five;
 use crate::output::put_list;
-use crate::output::put_text;
+use crate::output::say;
+use crate::room::ARGUMENTS_ROOM;
+use crate::room::DEFINITIONS_ROOM;
+use crate::room::KEPT_ROOM;
+use crate::room::NUMBERS_ROOM;
+use crate::room::STATEMENTS_ROOM;
+use crate::room::TEXT_ROOM;
 use simmerotter::simmerotter_read_body;
 use simmerotter::simmerotter_read_file;
 
-// Every part of a case fits its buffer.
-fn has_room(
-    line: Line,
-    kept: usize,
-    definitions: usize,
-    statements: usize,
-    arguments: usize,
-) -> bool {
-    if line.large {
+// The line followed the rules to its end; a file is read from 0, and a body call lends no definitions.
+fn is_case(line: Line, sizes: Sizes) -> bool {
+    if line.place == REFUSED {
         return false;
     }
-    if kept < line.kept {
-        return false;
+    if line.body {
+        return sizes.definitions == 0;
     }
-    if definitions < line.definitions {
-        return false;
-    }
-    if statements < line.statements {
-        return false;
-    }
-    line.arguments <= arguments
+    sizes.start == 0
 }
 
-// A body's case lends each list exactly as long as it says.
-fn ask_body(
-    line: Line,
-    text: &[u8],
-    tokens: &[u32],
-    kept: &mut [u32],
-    statements: &mut [u32],
-    arguments: &mut [u32],
-) -> [u64; 5] {
-    let b = least(line.bytes, text.len());
-    let w = least(line.words, tokens.len());
-    let k = least(line.kept, kept.len());
-    let s = least(line.statements, statements.len());
-    let a = least(line.arguments, arguments.len());
-    let mut answer = [0u64; 5];
-    simmerotter_read_body(
-        &text[0..b],
-        &tokens[0..w],
-        line.start,
-        &mut kept[0..k],
-        &mut statements[0..s],
-        &mut arguments[0..a],
-        &mut answer,
-    );
-    answer
+// Every part of the case fits its array.
+fn has_room(line: Line, sizes: Sizes) -> bool {
+    !line.large
+        && sizes.kept as usize <= KEPT_ROOM
+        && sizes.definitions as usize <= DEFINITIONS_ROOM
+        && sizes.statements as usize <= STATEMENTS_ROOM
+        && sizes.arguments as usize <= ARGUMENTS_ROOM
 }
 
-// A file's does so too.
-fn ask_file(
-    line: Line,
-    text: &[u8],
-    tokens: &[u32],
-    kept: &mut [u32],
-    definitions: &mut [u32],
-    statements: &mut [u32],
-    arguments: &mut [u32],
-) -> [u64; 5] {
-    let b = least(line.bytes, text.len());
-    let w = least(line.words, tokens.len());
-    let k = least(line.kept, kept.len());
-    let d = least(line.definitions, definitions.len());
-    let s = least(line.statements, statements.len());
-    let a = least(line.arguments, arguments.len());
-    let mut answer = [0u64; 5];
-    simmerotter_read_file(
-        &text[0..b],
-        &tokens[0..w],
-        &mut kept[0..k],
-        &mut definitions[0..d],
-        &mut statements[0..s],
-        &mut arguments[0..a],
-        &mut answer,
-    );
-    answer
-}
-
+// Asks the entry of the case's mode, with each list lent as long as the case says.
 fn ask(
     line: Line,
+    sizes: Sizes,
     text: &[u8],
-    tokens: &[u32],
+    numbers: &[u32],
     kept: &mut [u32],
     definitions: &mut [u32],
     statements: &mut [u32],
     arguments: &mut [u32],
-) -> [u64; 5] {
-    fill(kept, line.kept);
-    fill(definitions, line.definitions);
-    fill(statements, line.statements);
-    fill(arguments, line.arguments);
+    answer: &mut [u64; 5],
+) {
+    let text = first_bytes(text, line.bytes);
+    let tokens = tokens_of(numbers, line.numbers);
     if line.body {
-        return ask_body(line, text, tokens, kept, statements, arguments);
+        simmerotter_read_body(
+            text,
+            tokens,
+            sizes.start as usize,
+            lent(kept, sizes.kept),
+            lent(statements, sizes.statements),
+            lent(arguments, sizes.arguments),
+            answer,
+        );
+        return;
     }
-    ask_file(line, text, tokens, kept, definitions, statements, arguments)
+    simmerotter_read_file(
+        text,
+        tokens,
+        lent(kept, sizes.kept),
+        lent(definitions, sizes.definitions),
+        lent(statements, sizes.statements),
+        lent(arguments, sizes.arguments),
+        answer,
+    );
 }
 
 // The answer's numbers, then the four lists as they are after the call.
 fn show(
-    line: Line,
+    out: &mut [u8; OUT_ROOM],
+    sizes: Sizes,
     answer: [u64; 5],
     kept: &[u32],
     definitions: &[u32],
     statements: &[u32],
     arguments: &[u32],
-    out: &mut [u8],
-    filled: usize,
-) -> usize {
-    let first = put_five(out, filled, answer);
-    let second = put_list(out, first, kept, line.kept);
-    let third = put_list(out, second, definitions, line.definitions);
-    let fourth = put_list(out, third, statements, line.statements);
-    let last = put_list(out, fourth, arguments, line.arguments);
-    put_end(out, last)
+) {
+    let first = put_five(out, 0, answer);
+    let second = put_list(out, first, kept, sizes.kept);
+    let third = put_list(out, second, definitions, sizes.definitions);
+    let fourth = put_list(out, third, statements, sizes.statements);
+    let fifth = put_list(out, fourth, arguments, sizes.arguments);
+    let last = put_byte(out, fifth, b'\n');
+    say(first_bytes(out, last));
 }
 
-fn answer_case(
-    line: Line,
-    text: &[u8],
-    tokens: &[u32],
-    kept: &mut [u32],
-    definitions: &mut [u32],
-    statements: &mut [u32],
-    arguments: &mut [u32],
-    out: &mut [u8],
-    filled: usize,
-) -> usize {
-    let answer = ask(line, text, tokens, kept, definitions, statements, arguments);
-    show(
-        line,
-        answer,
-        kept,
-        definitions,
-        statements,
-        arguments,
-        out,
-        filled,
-    )
-}
-
-// The answer to a line whose bytes have all been read.
+// The answer to a line that has been read whole.
 pub fn answer_line(
     line: Line,
-    text: &[u8],
-    tokens: &mut [u32],
-    kept: &mut [u32],
-    definitions: &mut [u32],
-    statements: &mut [u32],
-    arguments: &mut [u32],
-    out: &mut [u8],
-    filled: usize,
-) -> usize {
-    let whole = end_line(line, tokens);
-    if !whole.good {
-        return put_text(out, filled, b"X_NotACase\n");
+    text: &[u8; TEXT_ROOM],
+    numbers: &[u32; NUMBERS_ROOM],
+    kept: &mut [u32; KEPT_ROOM],
+    definitions: &mut [u32; DEFINITIONS_ROOM],
+    statements: &mut [u32; STATEMENTS_ROOM],
+    arguments: &mut [u32; ARGUMENTS_ROOM],
+    out: &mut [u8; OUT_ROOM],
+) {
+    let sizes = sizes_of(numbers);
+    if !is_case(line, sizes) {
+        say(b"X_NotACase\n");
+        return;
     }
-    if !has_room(
-        whole,
-        kept.len(),
-        definitions.len(),
-        statements.len(),
-        arguments.len(),
-    ) {
-        return put_text(out, filled, b"X_TooLarge\n");
+    if !has_room(line, sizes) {
+        say(b"X_TooLarge\n");
+        return;
     }
-    answer_case(
-        whole,
+    let mut answer = [0u64; 5];
+    ask(
+        line,
+        sizes,
         text,
-        tokens,
+        numbers,
         kept,
         definitions,
         statements,
         arguments,
-        out,
-        filled,
-    )
+        &mut answer,
+    );
+    show(out, sizes, answer, kept, definitions, statements, arguments);
 }

@@ -1,42 +1,25 @@
-// The output, through a buffer that is written out where it is full. `filled` is how many of its bytes wait; each function here answers how many do then.
-// None asks anything of `filled`: what lies beyond the buffer counts as its end.
-use crate::list::least;
+// An answer's bytes, through a buffer that is written out where it is full. `filled` is how many of its bytes wait; each put answers how many do then.
+use crate::room::least;
 use libc::STDOUT_FILENO;
-ghost use Prim.Native.Nat.{_+_, _≤_};
-ghost use lib.ListN.{length};
 
-// Writes out what waits.
-pub fn flush(out: &[u8], filled: usize) {
-    let n = least(filled, out.len());
-    io::write_all(STDOUT_FILENO, &out[0..n]);
+pub const OUT_ROOM: usize = 4096;
+
+// Writes bytes out at once.
+pub fn say(bytes: &[u8]) {
+    io::write_all(STDOUT_FILENO, bytes);
 }
 
-// Where `wanted` more bytes can go: behind what waits, or at the start once that is written out.
-fn make_room(out: &[u8], filled: usize, wanted: usize) -> usize
-    ensures { λ r. ⌜ r ≤ length (now (out .entry)) ⌝ }
-{
-    if out.len() < filled {
-        flush(out, filled);
-        return 0;
+pub fn put_byte(out: &mut [u8; OUT_ROOM], filled: usize, byte: u8) -> usize {
+    if filled < OUT_ROOM {
+        out[filled] = byte;
+        return filled + 1;
     }
-    if out.len() - filled < wanted {
-        flush(out, filled);
-        return 0;
-    }
-    filled
+    say(out);
+    out[0] = byte;
+    1
 }
 
-fn put_byte(out: &mut [u8], filled: usize, byte: u8) -> usize {
-    let at = make_room(out, filled, 1);
-    if at < out.len() {
-        out[at] = byte;
-        return at + 1;
-    }
-    at
-}
-
-// A text of ASCII bytes.
-pub fn put_text(out: &mut [u8], filled: usize, text: &[u8]) -> usize {
+fn put_text(out: &mut [u8; OUT_ROOM], filled: usize, text: &[u8]) -> usize {
     let mut at = filled;
     let mut i = 0;
     while i < text.len() {
@@ -46,91 +29,46 @@ pub fn put_text(out: &mut [u8], filled: usize, text: &[u8]) -> usize {
     at
 }
 
-// How many decimal digits write a number: at most 20 for 64 bits, which the test in the loop says to its proof.
-fn count_digits(n: u64) -> usize {
-    let mut count = 1;
-    let mut rest = n / 10;
-    while rest != 0 {
-        if count == 20 {
-            return count;
-        }
-        rest /= 10;
-        count += 1;
-    }
-    count
-}
-
-// The last `count` decimal digits of a number.
-fn write_digits(out: &mut [u8], at: usize, count: usize, n: u64)
-    requires { ⌜ at + count ≤ length (now out) ⌝ }
-{
-    let mut rest = n;
-    let mut i = count;
-    while 0 < i {
-        i -= 1;
-        out[at + i] = 48 + (rest % 10) as u8;
-        rest /= 10;
-    }
-}
-
 // A number in decimal.
-pub fn put_number(out: &mut [u8], filled: usize, n: u64) -> usize {
-    let count = count_digits(n);
-    let at = make_room(out, filled, count);
-    if out.len() - at < count {
-        return at;
-    }
-    write_digits(out, at, count, n);
-    at + count
+fn put_number(out: &mut [u8; OUT_ROOM], filled: usize, n: u64) -> usize {
+    let mut digits = [0u8; 20];
+    let count = io::decimal(n, &mut digits);
+    put_text(out, filled, &digits[..count])
 }
 
-// A number and what stands behind it.
-fn put_and(out: &mut [u8], filled: usize, n: u64, byte: u8) -> usize {
-    let at = put_number(out, filled, n);
-    put_byte(out, at, byte)
+// A number behind a mark.
+fn put_next(out: &mut [u8; OUT_ROOM], filled: usize, mark: u8, n: u64) -> usize {
+    let at = put_byte(out, filled, mark);
+    put_number(out, at, n)
 }
 
 // The five numbers of an answer, with one space between them.
-pub fn put_five(out: &mut [u8], filled: usize, answer: [u64; 5]) -> usize {
-    let second = put_and(out, filled, answer[0], b' ');
-    let third = put_and(out, second, answer[1], b' ');
-    let fourth = put_and(out, third, answer[2], b' ');
-    let fifth = put_and(out, fourth, answer[3], b' ');
-    put_number(out, fifth, answer[4])
+pub fn put_five(out: &mut [u8; OUT_ROOM], filled: usize, answer: [u64; 5]) -> usize {
+    let first = put_number(out, filled, answer[0]);
+    let second = put_next(out, first, b' ', answer[1]);
+    let third = put_next(out, second, b' ', answer[2]);
+    let fourth = put_next(out, third, b' ', answer[3]);
+    put_next(out, fourth, b' ', answer[4])
 }
 
-// A comma before every word but the first.
-fn put_comma(out: &mut [u8], filled: usize, i: usize) -> usize {
-    if i == 0 {
-        return filled;
-    }
-    put_byte(out, filled, b',')
-}
-
-// Words joined by commas.
-fn put_words(out: &mut [u8], filled: usize, words: &[u32]) -> usize {
-    let mut at = filled;
-    let mut i = 0;
-    while i < words.len() {
-        at = put_comma(out, at, i);
-        at = put_number(out, at, wide(words[i]));
-        i += 1;
-    }
-    at
-}
-
+// A function of its own, so that the cast leaves the loop nothing to prove.
 fn wide(word: u32) -> u64 {
     word as u64
 }
 
-// A bar and the first n words of a list.
-pub fn put_list(out: &mut [u8], filled: usize, list: &[u32], n: usize) -> usize {
-    let at = put_byte(out, filled, b'|');
-    let end = least(n, list.len());
-    put_words(out, at, &list[0..end])
-}
-
-// The line's end.
-pub fn put_end(out: &mut [u8], filled: usize) -> usize {
-    put_byte(out, filled, b'\n')
+// A bar, and the first n words of a list joined by commas.
+pub fn put_list(out: &mut [u8; OUT_ROOM], filled: usize, list: &[u32], n: u32) -> usize {
+    let end = least(n as usize, list.len());
+    if end == 0 {
+        return put_byte(out, filled, b'|');
+    }
+    let mut at = filled;
+    let mut mark = b'|';
+    let mut i = 0;
+    while i < end {
+        at = put_next(out, at, mark, wide(list[i]));
+        mark = b',';
+        i += 1;
+    }
+    at
 }

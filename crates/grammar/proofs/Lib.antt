@@ -22,4 +22,3 @@ pub mod FileRecorded
 pub mod FileCover
 pub mod FileBounds
 pub mod FilePlaces
-pub mod FileAtPlace

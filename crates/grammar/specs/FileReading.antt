@@ -3,6 +3,7 @@ use Prim.Native.Nat.{ℕ, _+_, _*_, _/_}
 use mathlib.Core.Bool.{Bool, true, false}
 use mathlib.Core.List.{List, [], _∷_}
 use lib.ListN.{length}
+use Rattle.tokens.specs.Number.{nameForm}
 use Rattle.tokens.specs.Token.{Token}
 use Rattle.grammar.specs.Reading.{Argument, Reading}
 
@@ -47,7 +48,7 @@ pub record Definition : Type 0 where
 -- a declared argument with a type, which stands at its first place
 abbrev pub declared : ℕ → ℕ → ℕ → ℕ → ℕ → Argument
 declared first name indexed location end =
-    record { form = 1; type = first; name = name; indexed = indexed; location = location; first = first; end = end }
+    record { form = nameForm; type = first; name = name; indexed = indexed; location = location; first = first; end = end }
 
 -- the digits of a code table's entries
 unfoldable pub digitTotal : List TableEntry → ℕ

@@ -2,6 +2,7 @@
 use Prim.Native.Nat.{ℕ, suc}
 use mathlib.Core.Bool.{Bool}
 use mathlib.Core.List.{List, [], map}
+use Rattle.tokens.specs.Number.{nameForm, callAngledForm}
 use Rattle.tokens.specs.Token.{Token}
 
 -- what stands where a place is absent
@@ -61,11 +62,11 @@ oneToken form p = record { form = form; type = NONE; name = p; indexed = 0; loca
 
 -- a call's `<name>`, form 6: the name place inside the angles, a range of 3
 abbrev pub angled : ℕ → Argument
-angled p = record { form = 6; type = NONE; name = suc p; indexed = 0; location = 0; first = p; end = suc (suc (suc p)) }
+angled p = record { form = callAngledForm; type = NONE; name = suc p; indexed = 0; location = 0; first = p; end = suc (suc (suc p)) }
 
 -- an untyped name with a location before it, form 1: the range from location to name
 abbrev pub located : ℕ → ℕ → Argument
-located l p = record { form = 1; type = NONE; name = suc p; indexed = 0; location = l; first = p; end = suc (suc p) }
+located l p = record { form = nameForm; type = NONE; name = suc p; indexed = 0; location = l; first = p; end = suc (suc p) }
 
 -- an argument as a list has it: itself, and whether a Comma stands after it
 pub record Entry : Type 0 where

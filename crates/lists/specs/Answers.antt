@@ -5,7 +5,7 @@ use mathlib.Core.Bool.{true, false}
 use mathlib.Core.List.{List, [], _∷_, map}
 use lib.ListN.{length}
 use Rattle.tokens.specs.Token.{Token}
-use Rattle.tokens.specs.Number.{UnexpectedType, argumentWidth}
+use Rattle.tokens.specs.Number.{UnexpectedType, argumentWidth, nameForm}
 use Rattle.tokens.specs.Kind.{Ident, RightAngle}
 use Rattle.grammar.specs.Reading.{NONE, angled}
 use Rattle.grammar.specs.Reading as reading
@@ -47,7 +47,7 @@ pub record ArgRead (p size : ℕ) (read : Res reading.Argument) (r : Arg) : Type
 -- a name at p, the last token of an argument whose first place and location are known
 abbrev pub named : ℕ → ℕ → ℕ → reading.Argument
 named location first p =
-    record { form = 1; type = NONE; name = p; indexed = 0; location = location; first = first; end = suc p }
+    record { form = nameForm; type = NONE; name = p; indexed = 0; location = location; first = first; end = suc p }
 
 -- the reader of what stands behind a call's `<` at p, and of what may stand behind a type at `first` and its Indexed
 abbrev pub angledRest : ℕ → ℕ → List Token → Res reading.Argument

@@ -1,13 +1,12 @@
--- The buffer keeps its length; the measure is the bytes left.
+-- The measure is the bytes left.
 use Prim.Native.Nat.{_≤_, _-_}
-use mathlib.Core.Path.{_≡_}
 use lib.ListN.{length}
 use borrow.Author.Needs.{needs}
 use Rattle.cases.proofs.output.put_text.Statement.{statement}
 use Rattle.cases.proofs.output.put_text.Tie as tie
 
 abbrev Inv-loop : tie.InvT-loop
-Inv-loop out₀ filled text at₀ i₀ out at i = (i ≤ length text) × (length out ≡ length out₀)
+Inv-loop out₀ filled text at₀ i₀ out at i = i ≤ length text
 
 abbrev μ-loop : tie.MeasureT-loop
 μ-loop out₀ filled text at₀ i₀ out at i = length text - i
@@ -19,7 +18,7 @@ shared-slice-read-put-byte : tie.Need-shared-slice-read-put-byte Inv-loop μ-loo
 shared-slice-read-put-byte c = search needs
 
 put-byte-requires : tie.Need-put-byte-requires Inv-loop μ-loop
-put-byte-requires c κs = search needs
+put-byte-requires c κs = tt
 
 add-i : tie.Need-add-i Inv-loop μ-loop
 add-i c = search needs
@@ -30,11 +29,8 @@ loop-less c = search needs
 loop-again : tie.Need-loop-again Inv-loop μ-loop
 loop-again c = search needs
 
-same-length : tie.Need-same-length Inv-loop μ-loop
-same-length c = search needs
-
 returns : tie.Need-returns Inv-loop μ-loop
-returns c = search needs
+returns c = tt
 
 pub put-text-spec : {M : Type 1} → statement M
 put-text-spec =
@@ -48,5 +44,4 @@ put-text-spec =
     add-i
     loop-less
     loop-again
-    same-length
     returns)
