@@ -3,11 +3,12 @@
 // Each entry is a statement record. i and a are the numbers of statement and argument records before the lent tables.
 use crate::record::DefRead;
 use crate::record::Definition;
+use statements::item::Statement;
+use statements::item::put_statement;
 use tokens::all_hex;
 use tokens::kind;
 use tokens::kind_at;
 use tokens::number;
-use tokens::put_record;
 use tokens::text_at;
 ghost use Prim.Native.Nat.{ℕ, suc, _+_, _≤_, _<_};
 ghost use mathlib.Core.Path.{_≡_};
@@ -121,8 +122,20 @@ fn put_entry(statements: &mut [u32], m: usize, ty: u32, p: usize, i: usize, a: u
     let end = (p + 1) as u32;
     let own = (i + m + 1) as u32;
     let argument = a as u32;
-    let words = [ty, place, end, own, 0, argument, 0, place];
-    put_record(statements, m, &words);
+    put_statement(
+        statements,
+        m,
+        Statement {
+            ty: ty,
+            first: place,
+            end: end,
+            inner: own,
+            inners: 0,
+            argument: argument,
+            arguments: 0,
+            place: place,
+        },
+    );
 }
 
 // The entries and the brace, from the place behind the opening brace.

@@ -26,17 +26,14 @@ cast-own c = search needs
 cast-argument : tie.Need-cast-argument
 cast-argument c = search needs
 
-slice-aggregate-put-record : tie.Need-slice-aggregate-put-record
-slice-aggregate-put-record c = search needs
-
-put-record-requires : tie.Need-put-record-requires
-put-record-requires c κs = search needs
+put-statement-requires : tie.Need-put-statement-requires
+put-statement-requires c κs = search needs
 
 same-length : tie.Need-same-length
 same-length c = search needs
 
 returns : tie.Need-returns
-returns c = c .before .before .put-record .ensures ∙ rw (add-one (c .before .before .before .before .before .before .args .p), add-one (c .before .before .before .before .before .before .args .i + c .before .before .before .before .before .before .args .m))
+returns c = c .before .before .put-statement .ensures ∙ rw (add-one (c .before .before .before .before .before .args .p), add-one (c .before .before .before .before .before .args .i + c .before .before .before .before .before .args .m))
 
 pub put-entry-spec : {M : Type 1} → statement M
 put-entry-spec =
@@ -49,7 +46,6 @@ put-entry-spec =
     add-own-2
     cast-own
     cast-argument
-    slice-aggregate-put-record
-    put-record-requires
+    put-statement-requires
     same-length
     returns)
