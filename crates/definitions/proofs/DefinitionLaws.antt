@@ -9,7 +9,7 @@ use mathlib.Core.List.{List, [], _∷_, _++_, map, append-nil, map-append}
 use borrow.Author.Tests.{eq-eqb, ne-eqb}
 use lib.ListN.{length, drop, length-append, length-map}
 use Rattle.tokens.specs.Token.{Token, tokenAt}
-use Rattle.tokens.specs.Number.{definitionWidth, argumentWidth}
+use Rattle.tokens.specs.Number.{definitionWidth, argumentWidth, importDefinition}
 use Rattle.tokens.specs.Lent.{put, putAll}
 use Rattle.tokens.specs.Kind.{Include, Define, Constant, Returns, View, Pure, Payable, NonPayable, Assign, FreeStoragePointer, Ident, Literal, Str}
 use Rattle.tokens.proofs.LentLaws.{putAll-append}
@@ -20,7 +20,7 @@ use Rattle.grammar.specs.Rules.{base}
 use Rattle.grammar.specs.Records.{argumentRecord}
 use Rattle.grammar.specs.FileReading.{Value, literalAt, pointerAt, Form, anImport, aFunction, anEvent, anError, aDefinedConstant, aMacro, aTable, Definition}
 use Rattle.grammar.specs.FileReader.{named, parseArgs, functionType, functionRest, parseImports, constantValue, constantRest, parseConstant, byKind, kindTable, topTable, parseDefinition, topLevel}
-use Rattle.grammar.specs.FileRecords.{importNumber, kindNumber, formArguments, formCount, formStatements, valueWords, definitionRecord}
+use Rattle.grammar.specs.FileRecords.{kindNumber, formArguments, formCount, formStatements, valueWords, definitionRecord}
 use Rattle.grammar.proofs.AtPlace.{seq-got, seq-bad}
 use Rattle.lists.specs.Answers.{one, ListRead, ListWithin}
 use Rattle.lists.specs.declared.list.ArgList.{ArgList}
@@ -386,7 +386,7 @@ module _ (all : List Token) (p : ℕ) where
       ∙ rw (add-two, add-one)
 
   pub import-parsed : {i a size : ℕ} {st ar : List ℕ} {r : DefRead} → tokenAt all p .kind ≡ Include → tokenAt all (suc p) .kind ≡ Str → p + 2 ≤ size
-      → r ≡ defs.Done (signatureOf importNumber p (p + 1) i a (record { end = p + 2; inputs = 0; outputs = 0; ty = 0 })) 0
+      → r ≡ defs.Done (signatureOf importDefinition p (p + 1) i a (record { end = p + 2; inputs = 0; outputs = 0; ty = 0 })) 0
       → DefParsed 8 all p i a size (parseImports p (drop p all)) st ar r st ar
   unfolding formCount formStatements formArguments putAll
   import-parsed e h inside written =

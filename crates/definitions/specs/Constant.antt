@@ -3,11 +3,11 @@ use Prim.Native.Nat.{ℕ, _+_, _≤_}
 use mathlib.Core.Path.{_≡_}
 use mathlib.Core.List.{List}
 use lib.ListN.{getD}
-use Rattle.tokens.specs.Number.{mostTokens}
+use Rattle.tokens.specs.Number.{mostTokens, constantDefinition}
 use Rattle.tokens.specs.Token.{Token, tokenAt}
 use Rattle.grammar.specs.Result.{plain, Res, got, bad}
 use Rattle.grammar.specs.FileReading.{Value, literalAt, pointerAt, Form, aDefinedConstant, Definition}
-use Rattle.grammar.specs.FileRecords.{constantNumber, valueWords}
+use Rattle.grammar.specs.FileRecords.{valueWords}
 use Rattle.definitions.specs.declared.record.Definition as code
 use Rattle.definitions.specs.declared.constant.ConstVal.{ConstVal}
 use Rattle.definitions.specs.declared.constant.ConstVal.the-variants.{Literal, FreeStoragePointer}
@@ -66,7 +66,7 @@ valueType v = getD (valueWords (valueOf v)) 0 0
 abbrev pub constantOf : ℕ → ℕ → ConstantDefinition → code.Definition
 constantOf i a d =
     record {
-      kind = constantNumber;
+      kind = constantDefinition;
       name = d .name;
       first = d .first;
       end = d .end;

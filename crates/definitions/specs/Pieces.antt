@@ -5,7 +5,7 @@ use mathlib.Core.Bool.{false, cond}
 use mathlib.Core.List.{List, [], _∷_, map}
 use lib.ListN.{length, drop}
 use lib.Dec.{eqb}
-use Rattle.tokens.specs.Number.{UnexpectedType, argumentWidth, mostTokens}
+use Rattle.tokens.specs.Number.{UnexpectedType, argumentWidth, mostTokens, eventDefinition, errorDefinition}
 use Rattle.tokens.specs.Token.{Token, tokenAt}
 use Rattle.tokens.specs.Lent.{putAll}
 use Rattle.tokens.specs.Kind as kinds
@@ -17,7 +17,7 @@ use Rattle.grammar.specs.Typed.{typedArgument}
 use Rattle.grammar.specs.Records.{argumentRecord}
 use Rattle.grammar.specs.FileReading.{Form, aFunction, anEvent, anError, isMacro}
 use Rattle.grammar.specs.FileReader.{parseArgs, named, functionType}
-use Rattle.grammar.specs.FileRecords.{eventNumber, errorNumber, kindNumber, inputsOf, outputsOf, innerArguments, formArguments, formCount, formStatements, lastWords}
+use Rattle.grammar.specs.FileRecords.{kindNumber, inputsOf, outputsOf, innerArguments, formArguments, formCount, formStatements, lastWords}
 use Rattle.lists.specs.Answers.{one}
 use Rattle.lists.specs.declared.argument.Sort.{Sort}
 use Rattle.lists.specs.declared.argument.Sort.the-variants as sorts
@@ -79,8 +79,8 @@ listKind Event = kinds.Event
 listKind Error = kinds.Error
 
 abbrev pub listNumber : Listed → ℕ
-listNumber Event = eventNumber
-listNumber Error = errorNumber
+listNumber Event = eventDefinition
+listNumber Error = errorDefinition
 
 abbrev pub listForm : Listed → List Argument → Form
 listForm Event = anEvent

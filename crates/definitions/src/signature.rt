@@ -9,10 +9,9 @@ ghost use Prim.Native.Nat.{ℕ, _≤_};
 ghost use mathlib.Core.Path.{_≡_};
 ghost use mathlib.Core.List.{List};
 ghost use lib.ListN.{length};
-ghost use Rattle.tokens.specs.Number.{mostTokens};
+ghost use Rattle.tokens.specs.Number.{mostTokens, functionDefinition};
 ghost use Rattle.grammar.specs.Reading.{Argument};
 ghost use Rattle.grammar.specs.FileReader.{functionType, functionRest};
-ghost use Rattle.grammar.specs.FileRecords.{functionNumber};
 ghost use Rattle.tokens.specs.Place.{Place, tokensFrom};
 ghost use Rattle.definitions.specs.Pieces.{TypeRead, OutputsRead, SignatureRead, listSort, listNumber, listRest, outputsRest};
 
@@ -127,7 +126,7 @@ pub fn function_behind(
     arguments: &mut [u32],
 ) -> Behind
     requires { ⌜ Place (now tokens) (now kept) p ⌝ }
-    ensures { λ r. ⌜ SignatureRead functionNumber p (length (now (kept .entry)))
+    ensures { λ r. ⌜ SignatureRead functionDefinition p (length (now (kept .entry)))
         (functionRest p (tokensFrom (now (text .entry)) (now (tokens .entry)) (now (kept .entry)) p))
         (now (arguments .entry)) r (now (arguments .exit)) ⌝ }
 {

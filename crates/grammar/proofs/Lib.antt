@@ -1,5 +1,6 @@
 -- The theorems on bodies and files; docs/GRAMMAR.md and docs/FILES.md say where each stands. First the laws of the readers, then what is read off them.
 pub mod Lists
+pub mod Standing
 pub mod Holds
 pub mod Sound
 pub mod Complete

@@ -3,45 +3,30 @@
 use Prim.Native.Nat.{ℕ, suc, _+_}
 use mathlib.Core.List.{List, [], _∷_, _++_, map}
 use lib.ListN.{length}
+use Rattle.tokens.specs.Number.{importDefinition, functionDefinition, eventDefinition, constantDefinition, errorDefinition, macroDefinition, fnDefinition, testDefinition, jumpTableDefinition, packedTableDefinition, codeTableDefinition, labelCallType, codeType}
 use Rattle.grammar.specs.Reading.{Argument}
 use Rattle.grammar.specs.Records.{argumentRecord, allArguments, statementRecords, statementCount}
 use Rattle.grammar.specs.FileReading.{Value, literalAt, pointerAt, MacroSort, theMacro, theFn, theTest, TableSort, jumpTable, packedTable, codeTable, TableEntry, Form, anImport, aFunction, anEvent, aDefinedConstant, anError, aMacro, aTable, Definition, sizeOf}
 
 -- kind: 6 macro, 7 fn, 8 test
 abbrev pub macroNumber : MacroSort → ℕ
-macroNumber theMacro = 6
-macroNumber theFn = 7
-macroNumber theTest = 8
+macroNumber theMacro = macroDefinition
+macroNumber theFn = fnDefinition
+macroNumber theTest = testDefinition
 
 -- 9 jump table, 10 packed, 11 code table
 abbrev pub tableNumber : TableSort → ℕ
-tableNumber jumpTable = 9
-tableNumber packedTable = 10
-tableNumber codeTable = 11
-
--- 1 import, 2 function, 3 event, 4 constant, 5 error
-abbrev pub importNumber : ℕ
-importNumber = 1
-
-abbrev pub functionNumber : ℕ
-functionNumber = 2
-
-abbrev pub eventNumber : ℕ
-eventNumber = 3
-
-abbrev pub constantNumber : ℕ
-constantNumber = 4
-
-abbrev pub errorNumber : ℕ
-errorNumber = 5
+tableNumber jumpTable = jumpTableDefinition
+tableNumber packedTable = packedTableDefinition
+tableNumber codeTable = codeTableDefinition
 
 -- the kind of a definition
 abbrev pub kindNumber : Form → ℕ
-kindNumber anImport = importNumber
-kindNumber (aFunction inputs type outputs) = functionNumber
-kindNumber (anEvent args) = eventNumber
-kindNumber (aDefinedConstant v) = constantNumber
-kindNumber (anError args) = errorNumber
+kindNumber anImport = importDefinition
+kindNumber (aFunction inputs type outputs) = functionDefinition
+kindNumber (anEvent args) = eventDefinition
+kindNumber (aDefinedConstant v) = constantDefinition
+kindNumber (anError args) = errorDefinition
 kindNumber (aMacro sort args takes returns r) = macroNumber sort
 kindNumber (aTable sort es) = tableNumber sort
 
@@ -81,9 +66,9 @@ formArguments f = inputsOf f ++ (outputsOf f ++ innerArguments f)
 
 -- "type 3 in jump and packed tables, 9 in code tables"
 abbrev pub entryType : TableSort → ℕ
-entryType jumpTable = 3
-entryType packedTable = 3
-entryType codeTable = 9
+entryType jumpTable = labelCallType
+entryType packedTable = labelCallType
+entryType codeTable = codeType
 
 -- a table entry as a statement: a range of 1, place the Ident
 unfoldable pub entryRecords : TableSort → ℕ → ℕ → List TableEntry → List (List ℕ)

@@ -21,4 +21,6 @@ pub mod FileMeans
 pub mod FileCases
 pub mod Typed
 pub mod Call
+pub mod Tables
+pub mod FileTables
 pub mod Written

@@ -3,21 +3,18 @@
 use Prim.Native.Nat.{ℕ, suc, _+_}
 use mathlib.Core.List.{List, [], _∷_, _++_, map}
 use lib.ListN.{length}
+use Rattle.tokens.specs.Number.{literalType, opcodeType, labelCallType, invocationType, labelType, constantType, argumentCallType, builtinType}
 use Rattle.grammar.specs.Reading.{Argument, Simple, Group, Reading, Sort, aLiteral, anOpcode, aLabelCall, anInvocation, aConstant, anArgumentCall, aBuiltin}
 
--- the type number of a label
-abbrev pub labelType : ℕ
-labelType = 5
-
--- that of any other statement
+-- the type number of a statement that is no label
 abbrev pub typeOf : Sort → ℕ
-typeOf aLiteral = 1
-typeOf anOpcode = 2
-typeOf aLabelCall = 3
-typeOf anInvocation = 4
-typeOf aConstant = 6
-typeOf anArgumentCall = 7
-typeOf aBuiltin = 8
+typeOf aLiteral = literalType
+typeOf anOpcode = opcodeType
+typeOf aLabelCall = labelCallType
+typeOf anInvocation = invocationType
+typeOf aConstant = constantType
+typeOf anArgumentCall = argumentCallType
+typeOf aBuiltin = builtinType
 
 -- type, first, end, first inner, inner count, first argument, arguments, place of name or value token
 abbrev pub simpleRecord : ℕ → ℕ → Simple → List ℕ

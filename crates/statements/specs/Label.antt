@@ -4,9 +4,8 @@ use mathlib.Core.Bool.{cond}
 use mathlib.Core.List.{List, [], _∷_}
 use lib.Dec.{eqb}
 use Rattle.tokens.specs.Kind.{Colon, Label}
-use Rattle.tokens.specs.Number.{UnexpectedType, InvalidTokenInMacroBody}
+use Rattle.tokens.specs.Number.{UnexpectedType, InvalidTokenInMacroBody, labelType}
 use Rattle.tokens.specs.Place.{kindAt}
-use Rattle.grammar.specs.Records.{labelType}
 use Rattle.statements.specs.declared.item.Progress.{Progress}
 use Rattle.statements.specs.declared.item.Items.{Items}
 use Rattle.statements.specs.declared.item.Items.the-variants.{Done, Refused}

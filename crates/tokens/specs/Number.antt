@@ -83,7 +83,67 @@ statementWidth = 8
 abbrev pub argumentWidth : ℕ
 argumentWidth = 7
 
--- ---- what stands in the words of a record: an argument's form and location
+-- ---- what stands in the words of a record: a definition's kind, a statement's type, an argument's form and location
+
+abbrev pub importDefinition : ℕ
+importDefinition = 1
+
+abbrev pub functionDefinition : ℕ
+functionDefinition = 2
+
+abbrev pub eventDefinition : ℕ
+eventDefinition = 3
+
+abbrev pub constantDefinition : ℕ
+constantDefinition = 4
+
+abbrev pub errorDefinition : ℕ
+errorDefinition = 5
+
+abbrev pub macroDefinition : ℕ
+macroDefinition = 6
+
+abbrev pub fnDefinition : ℕ
+fnDefinition = 7
+
+abbrev pub testDefinition : ℕ
+testDefinition = 8
+
+abbrev pub jumpTableDefinition : ℕ
+jumpTableDefinition = 9
+
+abbrev pub packedTableDefinition : ℕ
+packedTableDefinition = 10
+
+abbrev pub codeTableDefinition : ℕ
+codeTableDefinition = 11
+
+abbrev pub literalType : ℕ
+literalType = 1
+
+abbrev pub opcodeType : ℕ
+opcodeType = 2
+
+abbrev pub labelCallType : ℕ
+labelCallType = 3
+
+abbrev pub invocationType : ℕ
+invocationType = 4
+
+abbrev pub labelType : ℕ
+labelType = 5
+
+abbrev pub constantType : ℕ
+constantType = 6
+
+abbrev pub argumentCallType : ℕ
+argumentCallType = 7
+
+abbrev pub builtinType : ℕ
+builtinType = 8
+
+abbrev pub codeType : ℕ
+codeType = 9
 
 abbrev pub nameForm : ℕ
 nameForm = 1

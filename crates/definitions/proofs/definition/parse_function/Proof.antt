@@ -1,5 +1,5 @@
 use Rattle.tokens.specs.Kind.{Function}
-use Rattle.grammar.specs.FileRecords.{functionNumber}
+use Rattle.tokens.specs.Number.{functionDefinition}
 use Rattle.definitions.proofs.HeadLaws.{refused-parsed}
 use Prim.Native.Nat.{_+_}
 use mathlib.Core.Path.{refl}
@@ -41,7 +41,7 @@ signed-requires c κs =
     let args = c .before .before .before .before .before .before .before .before .before .before .before .args in
     let all = view (args .text .now) (args .tokens .now) (args .kept .now) in
     let h : Headed all Function (args .p) (length (args .kept .now)) heads.Named = rw (c .before .before .before .before .enum-told .given .1) at (c .before .before .before .before .before .before .read-head .ensures (args .text .now)) in
-    signature-fits functionNumber (args .p + 2) (length (args .kept .now)) (functionRest (args .p + 2) (drop (args .p + 2) all)) _ _ (c .before .before .function-behind .result) (c .before .before .function-behind .ensures) (omega arith) (omega (arith, h .2)) (omega arith) (omega arith) (omega arith)
+    signature-fits functionDefinition (args .p + 2) (length (args .kept .now)) (functionRest (args .p + 2) (drop (args .p + 2) all)) _ _ (c .before .before .function-behind .result) (c .before .before .function-behind .ensures) (omega arith) (omega (arith, h .2)) (omega arith) (omega arith) (omega arith)
 
 returns : tie.Need-returns
 unfolding parseFunction
@@ -60,7 +60,7 @@ returns-2 c =
     λ st. let args = c .before .before .before .before .before .before .before .before .before .before .before .before .args in
     let all = view (args .text .now) (args .tokens .now) (args .kept .now) in
     let h : Headed all Function (args .p) (length (args .kept .now)) heads.Named = rw (c .before .before .before .before .before .enum-told .given .1) at (c .before .before .before .before .before .before .before .read-head .ensures (args .text .now)) in
-    signature-parsed all Function (args .first) (args .p) functionRest (length (args .kept .now)) h functionNumber (args .i) (args .a) (c .before .before .before .function-behind .result) (c .before .before .before .function-behind .ensures) (c .signed .ensures)
+    signature-parsed all Function (args .first) (args .p) functionRest (length (args .kept .now)) h functionDefinition (args .i) (args .a) (c .before .before .before .function-behind .result) (c .before .before .before .function-behind .ensures) (c .signed .ensures)
 
 pub parse-function-spec : {M : Type 1} → statement M
 parse-function-spec =
