@@ -15,9 +15,9 @@ use Rattle.tokens.specs.Kind.{Eof, kinds}
 use Rattle.tokens.specs.Literal.{isLiteral}
 use Rattle.tokens.specs.Token.{kindOf, startOf, endOf, extraOf, tokenCount, part}
 use Rattle.tokens.specs.WellFormed.{goodAfter, good, badFrom, firstBad, prevEnd, rangeGood, eofGood, textGood, extraGood, contentsGood, wholeGood, WellFormed}
+use Rattle.tokens.specs.Number as number
 use Rattle.tokens.specs.declared.door.Door.{Door}
-use Rattle.tokens.specs.declared.door.Door.the-variants.{NotWellFormed, KeptTooShort, StartOutside, Ready}
-use Rattle.tokens.specs.Door.{door}
+use Rattle.tokens.specs.Door.{values, door, keptAfter, Prepared}
 use Rattle.tokens.specs.Kept.{dropped, keptFrom, keptOf, keepUnless}
 use Rattle.tokens.specs.Keep.{numbers, EofLast}
 use Rattle.tokens.proofs.Laws.{lt-or-le, left-step, left-none, and-left, and-right}
@@ -217,12 +217,12 @@ unfolding wholeGood
 few-tokens text words e =
     leb-true _ _ (and-right (leb (length text) 1048576 && eqb (length words % 4) 0 && ltb 0 (tokenCount words)) _ e)
 
--- what each answer of the door means: 30 is given exactly to a list that is not well formed, 35 and 31 to a well-formed one
-abbrev pub Means : (text words : List ℕ) (start room : ℕ) → Door → Type 0
-Means text words start room (NotWellFormed at) = ¬ (WellFormed text words)
-Means text words start room (KeptTooShort n) = WellFormed text words × (length (keptOf words) ≡ n) × (room < n)
-Means text words start room (StartOutside at) = WellFormed text words × (at ≡ start) × (length (keptOf words) ≤ room) × (length (keptOf words) ≤ start)
-Means text words start room (Ready n) = LetThrough text words start room n
+-- what each number of the door means: 30 is given exactly to a list that is not well formed, 35 and 31 to a well-formed one
+pub data Means (text words : List ℕ) (start room : ℕ) : ℕ × ℕ → Type 0 where
+  means-30 : {at : ℕ} → ¬ (WellFormed text words) → Means text words start room (number.NotWellFormed, at)
+  means-35 : WellFormed text words → room < length (keptOf words) → Means text words start room (number.KeptTooShort, length (keptOf words))
+  means-31 : WellFormed text words → length (keptOf words) ≤ room → length (keptOf words) ≤ start → Means text words start room (number.StartOutside, start)
+  means-through : {n : ℕ} → LetThrough text words start room n → Means text words start room (0, n)
 
 pub door-means : (text words : List ℕ) (start room : ℕ) → Means text words start room (door text words start room)
 unfolding door
@@ -231,25 +231,49 @@ door-means text words start room = go (wholeGood text words) refl
     n : ℕ
     n = length (keptOf words)
 
-    started : WellFormed text words → tokenCount words ≤ 65536 → n ≤ room → (t : Bool) → ltb start n ≡ t → Means text words start room (cond t (Ready n) (StartOutside start))
-    started f w h true e = record { formed = f; few = w; count = refl; room-enough = h; inside = ltb-true _ _ e }
-    started f w h false e = (f, refl, h, ltb-false _ _ e)
+    started : WellFormed text words → tokenCount words ≤ 65536 → n ≤ room → (t : Bool) → ltb start n ≡ t → Means text words start room (cond t (0, n) (number.StartOutside, start))
+    started f w h true e = means-through (record { formed = f; few = w; count = refl; room-enough = h; inside = ltb-true _ _ e })
+    started f w h false e = means-31 f h (ltb-false _ _ e)
 
-    roomy : WellFormed text words → tokenCount words ≤ 65536 → (t : Bool) → ltb room n ≡ t → Means text words start room (cond t (KeptTooShort n) (cond (ltb start n) (Ready n) (StartOutside start)))
-    roomy f w true e = (f, refl, ltb-true _ _ e)
+    roomy : WellFormed text words → tokenCount words ≤ 65536 → (t : Bool) → ltb room n ≡ t → Means text words start room (cond t (number.KeptTooShort, n) (cond (ltb start n) (0, n) (number.StartOutside, start)))
+    roomy f w true e = means-35 f (ltb-true _ _ e)
     roomy f w false e = started f w (ltb-false _ _ e) (ltb start n) refl
 
-    walked : wholeGood text words ≡ true → (t : Bool) → ltb (firstBad text words) (tokenCount words) ≡ t → Means text words start room (cond t (NotWellFormed (firstBad text words)) (cond (ltb room n) (KeptTooShort n) (cond (ltb start n) (Ready n) (StartOutside start))))
-    walked w true e = unformed text words (ltb-true _ _ e)
+    walked : wholeGood text words ≡ true → (t : Bool) → ltb (firstBad text words) (tokenCount words) ≡ t → Means text words start room (cond t (number.NotWellFormed, firstBad text words) (cond (ltb room n) (number.KeptTooShort, n) (cond (ltb start n) (0, n) (number.StartOutside, start))))
+    walked w true e = means-30 (unformed text words (ltb-true _ _ e))
     walked w false e = roomy (formed text words w (ltb-false _ _ e)) (few-tokens text words w) (ltb room n) refl
 
-    go : (t : Bool) → wholeGood text words ≡ t → Means text words start room (cond t (cond (ltb (firstBad text words) (tokenCount words)) (NotWellFormed (firstBad text words)) (cond (ltb room n) (KeptTooShort n) (cond (ltb start n) (Ready n) (StartOutside start)))) (NotWellFormed 0))
+    go : (t : Bool) → wholeGood text words ≡ t → Means text words start room (cond t (cond (ltb (firstBad text words) (tokenCount words)) (number.NotWellFormed, firstBad text words) (cond (ltb room n) (number.KeptTooShort, n) (cond (ltb start n) (0, n) (number.StartOutside, start)))) (number.NotWellFormed, 0))
     go true e = walked e (ltb (firstBad text words) (tokenCount words)) refl
-    go false e = λ f. true≢false (sym (f .whole) ∙ e)
+    go false e = means-30 (λ f. true≢false (sym (f .whole) ∙ e))
 
 -- let through with the count n
-pub ready : (text words : List ℕ) (start room : ℕ) {n : ℕ} → door text words start room ≡ Ready n → LetThrough text words start room n
-ready text words start room e = rw e at (door-means text words start room)
+pub ready : (text words : List ℕ) (start room : ℕ) {n : ℕ} → (0, n) ≡ door text words start room → LetThrough text words start room n
+ready text words start room {n} e = go (door text words start room) (door-means text words start room) (ap (λ (d : ℕ × ℕ). d .0) e) (ap (λ (d : ℕ × ℕ). d .1) e)
+  where
+    go : (d : ℕ × ℕ) → Means text words start room d → 0 ≡ d .0 → n ≡ d .1 → LetThrough text words start room n
+    go d (means-30 f) a b = absurd (omega (arith, a))
+    go d (means-35 f h) a b = absurd (omega (arith, a))
+    go d (means-31 f h k) a b = absurd (omega (arith, a))
+    go d (means-through l) a b = rw b l
+
+-- and the other way round: a well-formed list, a start inside it and room for the kept list
+pub let-through : (text words : List ℕ) (start room : ℕ) → WellFormed text words → length (keptOf words) ≤ room → start < length (keptOf words)
+    → door text words start room ≡ (0, length (keptOf words))
+let-through text words start room formed enough inside = go (door text words start room) (door-means text words start room)
+  where
+    go : (d : ℕ × ℕ) → Means text words start room d → d ≡ (0, length (keptOf words))
+    go d (means-30 f) = absurd (f formed)
+    go d (means-35 f h) = absurd (omega arith)
+    go d (means-31 f h k) = absurd (omega arith)
+    go d (means-through l) = ap (λ (n : ℕ). (0, n)) (sym (l .count))
+
+-- the door's promise, from what was examined
+pub prepared : {text words kept kept′ : List ℕ} {start : ℕ} {x d : Door} → values x ≡ door text words start (length kept) → x ≡ d
+    → kept′ ≡ keptAfter (values d .0) words kept
+    → Prepared text words start kept d kept′
+prepared {words = words} {kept = kept} e is f =
+    let said = ap values (sym is) ∙ e in record { answer = said; list = f ∙ ap (λ (v : ℕ × ℕ). keptAfter (v .0) words kept) said }
 
 -- ---- the kept list of a well-formed list
 
@@ -337,11 +361,14 @@ kept-not-empty text words f =
     kept-some words (tokenCount words) 0 (tokenCount words - 1) (omega arith) (omega arith) (rw last)
 
 -- a file's door: 30, 35 or the kept count
-pub file-not-31 : (text words : List ℕ) (room : ℕ) {at : ℕ} → door text words 0 room ≡ StartOutside at → ⊥
-file-not-31 text words room e =
-    let told = rw e at (door-means text words 0 room) in
-    let some = kept-not-empty text words (told .0) in
-    omega arith
+pub file-not-31 : (text words : List ℕ) (room : ℕ) {at : ℕ} → (number.StartOutside, at) ≡ door text words 0 room → ⊥
+file-not-31 text words room e = go (door text words 0 room) (door-means text words 0 room) (ap (λ (d : ℕ × ℕ). d .0) e)
+  where
+    go : (d : ℕ × ℕ) → Means text words 0 room d → number.StartOutside ≡ d .0 → ⊥
+    go d (means-30 f) a = omega (arith, a)
+    go d (means-35 f h) a = omega (arith, a)
+    go d (means-31 f h k) a = omega (arith, k, kept-not-empty text words f)
+    go d (means-through l) a = omega (arith, a)
 
 -- ---- the walk that tests and counts
 

@@ -17,7 +17,7 @@ use Rattle.tokens.specs.WellFormed.{wholeGood, prevEnd, rangeGood, eofGo
 use Rattle.tokens.specs.Kept.{keptOf}
 use Rattle.tokens.proofs.Laws.{and-left, and-right}
 use Rattle.tokens.proofs.KeptLaws.{kept-rising, kept-numbered}
-use Rattle.tokens.specs.Door.{keptAfter, Prepared}
+use Rattle.tokens.specs.Door.{values, door, keptAfter, Prepared}
 use Rattle.tokens.specs.declared.door.Door.{Door}
 use Rattle.tokens.specs.declared.door.Door.the-variants.{Ready}
 use Rattle.tokens.proofs.DoorLaws.{LetThrough, ready}
@@ -115,9 +115,10 @@ from-door text words formed few =
 pub kept-part : (text words : List ℕ) (start : ℕ) (kept : List ℕ) {kept′ : List ℕ} {d : Door} {n : ℕ} → Prepared text words start kept d kept′ → d ≡ Ready n
     → (take (n - 0) kept′ ≡ keptOf words) × (n ≤ length kept′) × Place words (keptOf words) start
 kept-part text words start kept {kept′} {d} {n} p e =
-    let l : LetThrough text words start (length kept) n = ready text words start (length kept) (sym (p .answer) ∙ e) in
+    let said : (0, n) ≡ door text words start (length kept) = ap values (sym e) ∙ p .answer in
+    let l : LetThrough text words start (length kept) n = ready text words start (length kept) said in
     let room : 0 + length (keptOf words) ≤ length kept = omega (arith, l .count, l .room-enough) in
-    let is : kept′ ≡ keptOf words ++ drop (0 + length (keptOf words)) kept = p .list ∙ ap (λ (x : Door). keptAfter x words kept) e ∙ sets-eq (keptOf words) kept 0 room in (
+    let is : kept′ ≡ keptOf words ++ drop (0 + length (keptOf words)) kept = p .list ∙ ap (λ (x : ℕ × ℕ). keptAfter (x .0) words kept) (sym said) ∙ sets-eq (keptOf words) kept 0 room in (
       ap (take (n - 0)) is ∙ take-at (keptOf words) (drop (0 + length (keptOf words)) kept) (n - 0) (omega (arith, l .count)),
       omega (arith, ap length is, length-append (keptOf words) (drop (0 + length (keptOf words)) kept), l .count),
       record { list = from-door text words (l .formed) (l .few); inside = omega (arith, l .inside, l .count) },

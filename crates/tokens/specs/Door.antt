@@ -5,7 +5,7 @@ use mathlib.Core.Bool.{cond}
 use mathlib.Core.List.{List}
 use lib.ListN.{length}
 use lib.Seq.{sets}
-use lib.Dec.{ltb}
+use lib.Dec.{eqb, ltb}
 use Rattle.tokens.specs.declared.door.Door.{Door}
 use Rattle.tokens.specs.declared.door.Door.the-variants.{NotWellFormed, KeptTooShort, StartOutside, Ready}
 use Rattle.tokens.specs.Number as number
@@ -13,37 +13,28 @@ use Rattle.tokens.specs.Token.{tokenCount}
 use Rattle.tokens.specs.WellFormed.{wholeGood, firstBad}
 use Rattle.tokens.specs.Kept.{keptOf}
 
--- document 01's number for each answer; 0 let through
-abbrev pub numberOf : Door → ℕ
-numberOf (NotWellFormed at) = number.NotWellFormed
-numberOf (KeptTooShort count) = number.KeptTooShort
-numberOf (StartOutside at) = number.StartOutside
-numberOf (Ready count) = 0
+-- document 01's number and cursor for each answer: the cursor is the first bad token's number (0 for the whole list), the kept count, the start; let
+-- through, 0 and the kept count
+abbrev pub values : Door → ℕ × ℕ
+values (NotWellFormed at) = (number.NotWellFormed, at)
+values (KeptTooShort count) = (number.KeptTooShort, count)
+values (StartOutside at) = (number.StartOutside, at)
+values (Ready count) = (0, count)
 
--- its cursor: the first bad token's number (0 for the whole list), the kept count, the start
-abbrev pub cursorOf : Door → ℕ
-cursorOf (NotWellFormed at) = at
-cursorOf (KeptTooShort count) = count
-cursorOf (StartOutside at) = at
-cursorOf (Ready count) = count
-
--- the answer for a start and a kept list of `room` words
-unfoldable pub door : List ℕ → List ℕ → ℕ → ℕ → Door
+-- number and cursor for a start and a kept list of `room` words
+unfoldable pub door : List ℕ → List ℕ → ℕ → ℕ → ℕ × ℕ
 door text words start room =
     cond (wholeGood text words)
-    (cond (ltb (firstBad text words) (tokenCount words)) (NotWellFormed (firstBad text words))
-    (cond (ltb room (length (keptOf words))) (KeptTooShort (length (keptOf words)))
-    (cond (ltb start (length (keptOf words))) (Ready (length (keptOf words))) (StartOutside start))))
-    (NotWellFormed 0)
+    (cond (ltb (firstBad text words) (tokenCount words)) (number.NotWellFormed, firstBad text words)
+    (cond (ltb room (length (keptOf words))) (number.KeptTooShort, length (keptOf words))
+    (cond (ltb start (length (keptOf words))) (0, length (keptOf words)) (number.StartOutside, start))))
+    (number.NotWellFormed, 0)
 
--- what the kept list holds afterwards: unchanged by a refusal; else the kept numbers, and the words beyond them untouched
-abbrev pub keptAfter : Door → List ℕ → List ℕ → List ℕ
-keptAfter (NotWellFormed at) words kept = kept
-keptAfter (KeptTooShort count) words kept = kept
-keptAfter (StartOutside at) words kept = kept
-keptAfter (Ready count) words kept = sets kept 0 (keptOf words)
+-- what the kept list holds after the door's number: unchanged by a refusal; else the kept numbers, and the words beyond them untouched
+abbrev pub keptAfter : ℕ → List ℕ → List ℕ → List ℕ
+keptAfter c words kept = cond (eqb c 0) (sets kept 0 (keptOf words)) kept
 
 -- what `prepare` promises: its answer r, and the kept list afterwards
 pub record Prepared (text words : List ℕ) (start : ℕ) (kept : List ℕ) (r : Door) (kept′ : List ℕ) : Type 0 where
-  pub answer : r ≡ door text words start (length kept)
-  pub list : kept′ ≡ keptAfter r words kept
+  pub answer : values r ≡ door text words start (length kept)
+  pub list : kept′ ≡ keptAfter (door text words start (length kept) .0) words kept

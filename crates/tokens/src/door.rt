@@ -14,7 +14,7 @@ ghost use Rattle.tokens.specs.Token.{tokenCount};
 ghost use Rattle.tokens.specs.WellFormed.{rangeGood, eofGood, contentsGood, wholeGood, goodAfter, firstBad};
 ghost use Rattle.tokens.specs.Kept.{dropped, keptOf};
 ghost use Rattle.tokens.specs.Keep.{numbers, EofLast};
-ghost use Rattle.tokens.specs.Door.{door, Prepared};
+ghost use Rattle.tokens.specs.Door.{values, door, Prepared};
 
 // What the door answers: a refusal with its cursor, or the kept count.
 pub enum Door {
@@ -225,7 +225,7 @@ fn write_kept(tokens: &[u32], kept: &mut [u32], count: usize)
 
 // The door's answer for a kept list of `room` words; nothing is written.
 fn examine(text: &[u8], tokens: &[u32], start: usize, room: usize) -> Door
-    ensures { λ r. ⌜ r ≡ door (now (text .entry)) (now (tokens .entry)) start room ⌝ }
+    ensures { λ r. ⌜ values r ≡ door (now (text .entry)) (now (tokens .entry)) start room ⌝ }
 {
     if !whole_good(text, tokens) {
         return Door::NotWellFormed(0);
