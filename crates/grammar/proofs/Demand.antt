@@ -1,4 +1,4 @@
--- Theorem 1, demand 3: read exactly if the tokens follow the grammar. Theorem 4, the prefix law. Theorem 5, the cursor said without the reader.
+-- Theorem 1: read exactly if the tokens follow the grammar. Theorem 4, the prefix law. Theorem 5, the cursor said without the reader.
 -- All of them hold for every rule set.
 use Prim.Native.Nat.{ℕ, suc, _+_, _-_, _≤_, _<_}
 use native.Mathlib.Nat.{le-antisymm}
@@ -30,7 +30,7 @@ pub was-refused : {A : Type 0} (x : Res A) (c q : ℕ) → answer x ≡ refused 
 was-refused (got r n) c q e = absurd (omega (arith, let z : _≡_ {A = ℕ} 0 1 = cc in z))
 was-refused (bad y w) c q e = (y, w, refl, cc, cc)
 
-body-some : (m : Rules) (p : ℕ) (xs : List Token) (r : Reading) → Body m p xs r → 0 < length xs
+pub body-some : (m : Rules) (p : ℕ) (xs : List Token) (r : Reading) → Body m p xs r → 0 < length xs
 body-some m p xs r (body o c e k g f) = omega arith
 
 -- a result of the reader, with what holds of it
@@ -50,9 +50,9 @@ complete m kept p n r h =
     ∙ ap (got r) (length-take-le n (drop p kept) (omega (arith, length-drop p kept, h .0)))
 
 -- Theorem 1. Read with r and n tokens exactly if those n tokens follow the grammar and read r
-pub demand-3 : (m : Rules) (kept : List Token) (p n : ℕ) (r : Reading) → (bodyAt m kept p ≡ read r n) ↔ Follows m kept p n r
+pub body-exactly : (m : Rules) (kept : List Token) (p n : ℕ) (r : Reading) → (bodyAt m kept p ≡ read r n) ↔ Follows m kept p n r
 unfolding bodyAt
-demand-3 m kept p n r = (
+body-exactly m kept p n r = (
   (λ e. sound m kept p n r (at-body m kept p (got r n) (was-read (bodyFrom m p (drop p kept)) r n e))),
   (λ h. ap answer (complete m kept p n r h)),
 )
@@ -60,14 +60,14 @@ demand-3 m kept p n r = (
 -- a stretch and its reading are the only ones
 pub only-one : (m : Rules) (kept : List Token) (p n n′ : ℕ) (r r′ : Reading) → Follows m kept p n r → Follows m kept p n′ r′ → (n ≡ n′) × (r ≡ r′)
 only-one m kept p n n′ r r′ h h′ =
-    let e : bodyAt m kept p ≡ read r n = demand-3 m kept p n r .1 h in
-    let e′ : bodyAt m kept p ≡ read r′ n′ = demand-3 m kept p n′ r′ .1 h′ in
+    let e : bodyAt m kept p ≡ read r n = body-exactly m kept p n r .1 h in
+    let e′ : bodyAt m kept p ≡ read r′ n′ = body-exactly m kept p n′ r′ .1 h′ in
     ((cc), (cc))
 
 -- a refused start has none
 pub refused-none : (m : Rules) (kept : List Token) (p c q : ℕ) → bodyAt m kept p ≡ refused c q → (n : ℕ) (r : Reading) → ¬ Follows m kept p n r
 refused-none m kept p c q e n r h =
-    let e′ : bodyAt m kept p ≡ read r n = demand-3 m kept p n r .1 h in
+    let e′ : bodyAt m kept p ≡ read r n = body-exactly m kept p n r .1 h in
     let z : _≡_ {A = ℕ} 0 1 = cc in
     omega arith
 
@@ -160,7 +160,7 @@ refused-exactly m kept p inside = (
 )
   where
     go : (w : ℕ) → FirstWrong m kept p w → (x : Answer Reading) → bodyAt m kept p ≡ x → (c : ℕ) × (q : ℕ) × (bodyAt m kept p ≡ refused c q)
-    go w f (read r n) e = absurd (f .hopeless kept refl r n (demand-3 m kept p n r .0 e))
+    go w f (read r n) e = absurd (f .hopeless kept refl r n (body-exactly m kept p n r .0 e))
     go w f (refused c q) e = (c, q, e)
 
 -- theorems 1 and 5 in one: every answer of the reader, those of the tables of cases too, means that
@@ -168,7 +168,7 @@ pub means : (m : Rules) (kept : List Token) (p : ℕ) → p ≤ length kept → 
 means m kept p inside = go (bodyAt m kept p) refl
   where
     go : (x : Answer Reading) → bodyAt m kept p ≡ x → Means m kept p x
-    go (read r n) e = demand-3 m kept p n r .0 e
+    go (read r n) e = body-exactly m kept p n r .0 e
     go (refused c q) e = cursor m kept p c q inside e
 
 known : (m : Rules) (p : ℕ) (ts : List Token) (y : Why) (w : ℕ) → Holds (Told m) (Body m p) (Any (Body m p)) p (bodyFrom m p) ts (bad y w) → isBodyNumber m (number y) ≡ true

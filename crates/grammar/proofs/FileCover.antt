@@ -16,7 +16,7 @@ use Rattle.grammar.specs.FileGrammar.{Defined, include, define, remember
 use Rattle.grammar.specs.FileFollows.{FollowsFile, definitionRange}
 
 -- a definition begins at its place and ends behind its tokens
-defined-range : (m : Rules) (p : ℕ) (xs : List Token) (d : Definition) → Defined m p xs d → (d .first ≡ p) × (d .end ≡ p + length xs) × (p < d .end)
+pub defined-range : (m : Rules) (p : ℕ) (xs : List Token) (d : Definition) → Defined m p xs d → (d .first ≡ p) × (d .end ≡ p + length xs) × (p < d .end)
 defined-range m p xs d (include i s e f) = (refl, omega arith, omega arith)
 defined-range m p xs d (define t k n e f r) = (refl, omega arith, omega arith)
 

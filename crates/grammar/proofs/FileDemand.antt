@@ -51,9 +51,9 @@ module _ (m : Rules) (names : Bool) where
       ∙ ap (got ds) (length-take-le n kept w)
 
   -- Theorem 1. Accepted with ds and Eof at n exactly if the n tokens before it are a file that reads ds
-  pub file-demand : (kept : List Token) (n : ℕ) (ds : List Definition) → (fileAt m names kept ≡ read ds n) ↔ FollowsFile m names kept n ds
+  pub file-exactly : (kept : List Token) (n : ℕ) (ds : List Definition) → (fileAt m names kept ≡ read ds n) ↔ FollowsFile m names kept n ds
   unfolding fileAt
-  file-demand kept n ds = (
+  file-exactly kept n ds = (
     (λ e. sound kept n ds (at-file kept (got ds n) (was-read (parse m names [] 0 kept) ds n e))),
     (λ h. ap answer (complete kept n ds h)),
   )
@@ -61,14 +61,14 @@ module _ (m : Rules) (names : Bool) where
   -- a file has only one reading
   pub file-only-one : (kept : List Token) (n n′ : ℕ) (ds ds′ : List Definition) → FollowsFile m names kept n ds → FollowsFile m names kept n′ ds′ → (n ≡ n′) × (ds ≡ ds′)
   file-only-one kept n n′ ds ds′ h h′ =
-      let e : fileAt m names kept ≡ read ds n = file-demand kept n ds .1 h in
-      let e′ : fileAt m names kept ≡ read ds′ n′ = file-demand kept n′ ds′ .1 h′ in
+      let e : fileAt m names kept ≡ read ds n = file-exactly kept n ds .1 h in
+      let e′ : fileAt m names kept ≡ read ds′ n′ = file-exactly kept n′ ds′ .1 h′ in
       ((cc), (cc))
 
   -- a refused one has none
   pub file-refused-none : (kept : List Token) (c q : ℕ) → fileAt m names kept ≡ refused c q → (n : ℕ) (ds : List Definition) → ¬ FollowsFile m names kept n ds
   file-refused-none kept c q e n ds h =
-      let e′ : fileAt m names kept ≡ read ds n = file-demand kept n ds .1 h in
+      let e′ : fileAt m names kept ≡ read ds n = file-exactly kept n ds .1 h in
       let z : _≡_ {A = ℕ} 0 1 = cc in
       omega arith
 
@@ -344,7 +344,7 @@ file-refused-exactly m kept = (
     no-twenty y w (halted n {w = v} {us = us} l e u s g x) = ne-eqb (number y) 20 (not-twenty m (number y) (top-number m false v us y w x))
 
     go : (w : ℕ) → FirstWrongFile m kept w → (x : Answer (List Definition)) → fileAt m false kept ≡ x → (c : ℕ) × (q : ℕ) × (fileAt m false kept ≡ refused c q)
-    go w f (read ds n) e = absurd (f .hopeless kept refl n ds (file-demand m false kept n ds .0 e))
+    go w f (read ds n) e = absurd (f .hopeless kept refl n ds (file-exactly m false kept n ds .0 e))
     go w f (refused c q) e = (c, q, e)
 
 -- what every answer means, without the reader
@@ -356,7 +356,7 @@ file-means m kept = go (fileAt m true kept) refl
     wrong c q e false h = let f = file-cursor m true kept c q e h in meansWrong (f .0) h (f .1) (f .2)
 
     go : (x : Answer (List Definition)) → fileAt m true kept ≡ x → MeansFile m kept x
-    go (read ds n) e = meansRead (file-demand m true kept n ds .0 e)
+    go (read ds n) e = meansRead (file-exactly m true kept n ds .0 e)
     go (refused c q) e = wrong c q e (eqb c 20) refl
 
 -- a proper token is no Eof
@@ -371,11 +371,11 @@ pub file-before-eof : (m : Rules) (names : Bool) (ts : List Token) (e : Token) (
     → (fileAt m names (ts ++ (e ∷ [])) ≡ read ds n) ↔ ((n ≡ length ts) × File m names ts ds)
 file-before-eof m names ts e n ds h k = (
   (λ f.
-      let (l, x, g) = file-demand m names (ts ++ (e ∷ [])) n ds .0 f in
+      let (l, x, g) = file-exactly m names (ts ++ (e ∷ [])) n ds .0 f in
       let place : n ≡ length ts = le-antisymm (omega (arith, length-append ts (e ∷ []))) (not-less (λ z. no-eof ts n h z (ap (λ t. t .kind) (sym (List·getD-append ts (e ∷ []) eofToken n z)) ∙ x))) in
       (place, rw (take-at ts (e ∷ []) n (sym place)) at g)),
   (λ f.
-      file-demand m names (ts ++ (e ∷ [])) n ds .1 (
+      file-exactly m names (ts ++ (e ∷ [])) n ds .1 (
         omega (arith, f .0, length-append ts (e ∷ [])),
         ap (λ t. t .kind) (sym (token-at n (ts ++ (e ∷ []))) ∙ ap (λ us. tokenAt us 0) (drop-at ts (e ∷ []) n (sym (f .0)))) ∙ k,
         rw (take-at ts (e ∷ []) n (sym (f .0))) (f .1),

@@ -23,12 +23,12 @@ Inner m typed y t = (beyond y ≡ pastIn typed (number y) (t ∷ [])) × (isDefi
 abbrev pub Near : Why → Token → Type 0
 Near y t = (typed : Bool) × (beyond y ≡ pastIn typed (number y) (t ∷ []))
 
-either : {X : Type 0} (a b : Bool) → (a ≡ true → X) → (b ≡ true → X) → (a || b) ≡ true → X
+pub either : {X : Type 0} (a b : Bool) → (a ≡ true → X) → (b ≡ true → X) → (a || b) ≡ true → X
 either true b f g h = f refl
 either false b f g h = g h
 
 -- a body's numbers are a definition's
-body-is-inner : (m : Rules) (c : ℕ) → isBodyNumber m c ≡ true → isDefinitionNumber m c ≡ true
+pub body-is-inner : (m : Rules) (c : ℕ) → isBodyNumber m c ≡ true → isDefinitionNumber m c ≡ true
 body-is-inner m c =
     either _ (m .namesOnce && eqb c 22)
     (either _ (eqb c 13)

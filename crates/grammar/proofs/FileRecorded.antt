@@ -21,7 +21,7 @@ unfolding entryRecords
 entries-many sort i a [] = refl
 entries-many sort i a (e ∷ es) = ap suc (entries-many sort (suc i) a es)
 
-form-many : (i a : ℕ) (f : Form) → length (formStatements i a f) ≡ formCount f
+pub form-many : (i a : ℕ) (f : Form) → length (formStatements i a f) ≡ formCount f
 unfolding formStatements formCount
 form-many i a anImport = refl
 form-many i a (aFunction ins ty outs) = refl

@@ -18,8 +18,11 @@ pub mod FileSound
 pub mod FileComplete
 pub mod FileRuns
 pub mod FileDemand
+pub mod Numbers
 pub mod FileNames
 pub mod FileRecorded
 pub mod FileCover
 pub mod FileBounds
 pub mod FilePlaces
+pub mod Tabled
+pub mod FileTabled

@@ -10,7 +10,7 @@ use Rattle.grammar.specs.Records.{argumentRecord, argumentsOf, allArgume
 use Rattle.grammar.specs.Ranges.{All, simpleRange, groupRange, argumentRange, groupRanges, allRanges, statementWords, argumentWords, Numbered, Eight, Seven}
 use Rattle.grammar.proofs.Lists.{all-append}
 
-simple-count : (i a : ℕ) (ss : List Simple) → length (simpleRecords i a ss) ≡ length ss
+pub simple-count : (i a : ℕ) (ss : List Simple) → length (simpleRecords i a ss) ≡ length ss
 unfolding simpleRecords
 simple-count i a [] = refl
 simple-count i a (s ∷ ss) = ap suc (simple-count (suc i) (a + length (s .args)) ss)

@@ -1,17 +1,34 @@
--- What both calls say alike: the answer behind the door, and what a lent table holds afterwards.
-use Prim.Native.Nat.{ℕ, _-_}
-use mathlib.Core.List.{List, [], _++_, flatten}
+-- What both calls say alike: the five numbers of an answer, and what a lent table holds afterwards.
+use Prim.Native.Nat.{ℕ, _+_, _-_}
+use mathlib.Core.Bool.{cond, _||_}
+use mathlib.Core.List.{List, [], _∷_, _++_, flatten}
 use lib.ListN.{length, replicate}
-use Rattle.tokens.specs.declared.door.Door.{Door}
-use Rattle.tokens.specs.declared.door.Door.the-variants.{NotWellFormed, KeptTooShort, StartOutside, Ready}
+use lib.Dec.{eqb}
+use Rattle.tokens.specs.Number.{NotWellFormed, StartOutside, KeptTooShort}
+use Rattle.grammar.specs.Reading.{Reading}
+use Rattle.grammar.specs.Records.{statementCount, argumentCount}
+use Rattle.grammar.specs.PlainLength.{plainLength}
+use Rattle.grammar.specs.FileReading.{Definition}
+use Rattle.grammar.specs.FileRecords.{fileArguments, fileStatementCount}
 use Rattle.grammar.specs.Result.{Answer, read, refused}
 
--- 30, 35 and 31 as the call answers them; let through, what it answers then
-abbrev pub afterDoor : {A : Type 0} → (ℕ → A) → (ℕ → A) → (ℕ → A) → Door → A → A
-afterDoor unformed short outside (NotWellFormed at) then = unformed at
-afterDoor unformed short outside (KeptTooShort count) then = short count
-afterDoor unformed short outside (StartOutside at) then = outside at
-afterDoor unformed short outside (Ready count) then = then
+-- a refusal: its number, its cursor, "counts and length 0"
+abbrev pub refusal : ℕ → ℕ → List ℕ
+refusal c q = c ∷ q ∷ 0 ∷ 0 ∷ 0 ∷ []
+
+-- a body call from a start, where the tables have room: number (0 accepted), cursor, statements, arguments, plain length
+abbrev pub bodyNumbers : ℕ → Answer Reading → List ℕ
+bodyNumbers start (read r n) = 0 ∷ (start + n) ∷ statementCount r ∷ argumentCount r ∷ plainLength r ∷ []
+bodyNumbers start (refused c q) = refusal c q
+
+-- a file call: number, cursor, definitions, statements, arguments
+abbrev pub fileNumbers : Answer (List Definition) → List ℕ
+fileNumbers (read ds n) = 0 ∷ n ∷ length ds ∷ fileStatementCount ds ∷ length (fileArguments ds) ∷ []
+fileNumbers (refused c q) = refusal c q
+
+-- the door's number and cursor, 30, 35 or 31; let through, what the call answers then
+abbrev pub afterDoor : ℕ × ℕ → List ℕ → List ℕ
+afterDoor said then = cond (eqb (said .0) 0) then (refusal (said .0) (said .1))
 
 -- the records of a reading; a refused one has none
 abbrev pub recordsOf : {A : Type 0} → (A → List (List ℕ)) → Answer A → List (List ℕ)
@@ -22,12 +39,9 @@ recordsOf records (refused c q) = []
 abbrev pub filled : ℕ → List (List ℕ) → List ℕ
 filled size rs = flatten rs ++ replicate (size - length (flatten rs)) 0
 
--- what an answer leaves: all as it was lent; no records; the records of the reading
-pub data Leaves : Type 0 where
-  asLent noRecords allRecords : Leaves
-
--- what a table holds then: "nothing lent has changed"; "after a refusal only zeros"; "the records followed by zeros"
-abbrev pub heldAfter : Leaves → List (List ℕ) → List ℕ → List ℕ
-heldAfter asLent rs lent = lent
-heldAfter noRecords rs lent = filled (length lent) []
-heldAfter allRecords rs lent = filled (length lent) rs
+-- what a table holds after a call with this number: after 30, 31 and 35 "nothing lent has changed"; accepted, "the records followed by zeros"; "after a
+-- refusal only zeros"
+unfoldable pub heldAfter : ℕ → List (List ℕ) → List ℕ → List ℕ
+heldAfter c rs lent =
+    cond (eqb c NotWellFormed || eqb c StartOutside || eqb c KeptTooShort) lent
+    (cond (eqb c 0) (filled (length lent) rs) (filled (length lent) []))

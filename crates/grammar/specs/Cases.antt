@@ -6,9 +6,9 @@ use Rattle.tokens.specs.Byte.{bytes}
 use Rattle.tokens.specs.Token.{Token, eofToken}
 use Rattle.tokens.specs.Kind.{Calldata, Memory, OpenParen, CloseParen, OpenBrace, CloseBrace, OpenBracket, CloseBracket, LeftAngle, RightAngle, Comma, Colon, Ident, Label, Literal, Opcode, Str, BuiltinFunction, PrimitiveType}
 use Rattle.grammar.specs.Reading.{NONE, Reading}
-use Rattle.grammar.specs.Records.{statementRecords, argumentRecords, statementCount, argumentCount}
-use Rattle.grammar.specs.PlainLength.{plainLength}
-use Rattle.grammar.specs.Result.{Answer, read, refused}
+use Rattle.grammar.specs.Records.{statementRecords, argumentRecords}
+use Rattle.grammar.specs.Result.{Answer}
+use Rattle.grammar.specs.Call.{refusal, bodyNumbers, recordsOf}
 
 -- what a body call answers: number, cursor, statements, arguments, plain length; and the records of both tables
 pub record Outcome : Type 0 where
@@ -16,10 +16,9 @@ pub record Outcome : Type 0 where
   pub statements : List (List ℕ)
   pub arguments : List (List ℕ)
 
--- of an answer of the call at place p; refused, counts and length are 0 and there are no records
+-- of an answer of the call at place p, where the tables have room
 abbrev pub outcome : ℕ → Answer Reading → Outcome
-outcome p (read r n) = record { answers = 0 ∷ (p + n) ∷ statementCount r ∷ argumentCount r ∷ plainLength r ∷ []; statements = statementRecords 0 0 r; arguments = argumentRecords r }
-outcome p (refused c q) = record { answers = c ∷ q ∷ 0 ∷ 0 ∷ 0 ∷ []; statements = []; arguments = [] }
+outcome p x = record { answers = bodyNumbers p x; statements = recordsOf (statementRecords 0 0) x; arguments = recordsOf argumentRecords x }
 
 -- a token of a kind whose text no rule looks at
 abbrev pub mark : ℕ → Token
@@ -47,124 +46,124 @@ pub record Row : Type 0 where
   pub outcome : Outcome
 
 -- a row that is accepted: cursor, statements, arguments, plain length; statement records; argument records
-abbrev pub accepted : List Token → List ℕ → List (List ℕ) → List (List ℕ) → Row
-accepted input answers statements arguments = record { input = input; outcome = record { answers = 0 ∷ answers; statements = statements; arguments = arguments } }
+abbrev pub acceptedRow : List Token → List ℕ → List (List ℕ) → List (List ℕ) → Row
+acceptedRow input answers statements arguments = record { input = input; outcome = record { answers = 0 ∷ answers; statements = statements; arguments = arguments } }
 
 -- a row that is refused: number and cursor
-abbrev pub refusal : List Token → ℕ → ℕ → Row
-refusal input c q = record { input = input; outcome = record { answers = c ∷ q ∷ 0 ∷ 0 ∷ 0 ∷ []; statements = []; arguments = [] } }
+abbrev pub refusedRow : List Token → ℕ → ℕ → Row
+refusedRow input c q = record { input = input; outcome = record { answers = refusal c q; statements = []; arguments = [] } }
 
 -- the rows marked P
 abbrev pub rows : List Row
 rows =
     -- { }
-    accepted [] (2 ∷ 0 ∷ 0 ∷ 0 ∷ []) [] []
+    acceptedRow [] (2 ∷ 0 ∷ 0 ∷ 0 ∷ []) [] []
     -- { PUSH1 0xff }
-    ∷ accepted (PUSH1 ∷ word Literal "0xff" ∷ []) (4 ∷ 2 ∷ 0 ∷ 2 ∷ [])
+    ∷ acceptedRow (PUSH1 ∷ word Literal "0xff" ∷ []) (4 ∷ 2 ∷ 0 ∷ 2 ∷ [])
     ((2 ∷ 1 ∷ 2 ∷ 1 ∷ 0 ∷ 0 ∷ 0 ∷ 1 ∷ []) ∷ (1 ∷ 2 ∷ 3 ∷ 2 ∷ 0 ∷ 0 ∷ 0 ∷ 2 ∷ []) ∷ [])
     []
     -- { PUSH1 0x0001 }
-    ∷ accepted (PUSH1 ∷ word Literal "0x0001" ∷ []) (4 ∷ 2 ∷ 0 ∷ 2 ∷ [])
+    ∷ acceptedRow (PUSH1 ∷ word Literal "0x0001" ∷ []) (4 ∷ 2 ∷ 0 ∷ 2 ∷ [])
     ((2 ∷ 1 ∷ 2 ∷ 1 ∷ 0 ∷ 0 ∷ 0 ∷ 1 ∷ []) ∷ (1 ∷ 2 ∷ 3 ∷ 2 ∷ 0 ∷ 0 ∷ 0 ∷ 2 ∷ []) ∷ [])
     []
     -- { PUSH1 0x0100 }
-    ∷ refusal (PUSH1 ∷ word Literal "0x0100" ∷ []) 4 3
+    ∷ refusedRow (PUSH1 ∷ word Literal "0x0100" ∷ []) 4 3
     -- { PUSH1 }
-    ∷ refusal (PUSH1 ∷ []) 4 2
+    ∷ refusedRow (PUSH1 ∷ []) 4 2
     -- { go : PUSH1 }
-    ∷ accepted (word Label "go" ∷ mark Colon ∷ PUSH1 ∷ []) (5 ∷ 2 ∷ 0 ∷ 2 ∷ [])
+    ∷ acceptedRow (word Label "go" ∷ mark Colon ∷ PUSH1 ∷ []) (5 ∷ 2 ∷ 0 ∷ 2 ∷ [])
     ((5 ∷ 1 ∷ 4 ∷ 1 ∷ 1 ∷ 0 ∷ 0 ∷ 1 ∷ []) ∷ (2 ∷ 3 ∷ 4 ∷ 2 ∷ 0 ∷ 0 ∷ 0 ∷ 3 ∷ []) ∷ [])
     []
     -- { a : b : }
-    ∷ accepted (word Label "a" ∷ mark Colon ∷ word Label "b" ∷ mark Colon ∷ []) (6 ∷ 2 ∷ 0 ∷ 2 ∷ [])
+    ∷ acceptedRow (word Label "a" ∷ mark Colon ∷ word Label "b" ∷ mark Colon ∷ []) (6 ∷ 2 ∷ 0 ∷ 2 ∷ [])
     ((5 ∷ 1 ∷ 3 ∷ 1 ∷ 0 ∷ 0 ∷ 0 ∷ 1 ∷ []) ∷ (5 ∷ 3 ∷ 5 ∷ 2 ∷ 0 ∷ 0 ∷ 0 ∷ 3 ∷ []) ∷ [])
     []
     -- { F ( , ) }
-    ∷ refusal (word Ident "F" ∷ mark OpenParen ∷ mark Comma ∷ mark CloseParen ∷ []) 10 3
+    ∷ refusedRow (word Ident "F" ∷ mark OpenParen ∷ mark Comma ∷ mark CloseParen ∷ []) 10 3
     -- { F ( a , ) }
-    ∷ accepted (word Ident "F" ∷ mark OpenParen ∷ word Ident "a" ∷ mark Comma ∷ mark CloseParen ∷ []) (7 ∷ 1 ∷ 1 ∷ NONE ∷ [])
+    ∷ acceptedRow (word Ident "F" ∷ mark OpenParen ∷ word Ident "a" ∷ mark Comma ∷ mark CloseParen ∷ []) (7 ∷ 1 ∷ 1 ∷ NONE ∷ [])
     ((4 ∷ 1 ∷ 6 ∷ 1 ∷ 0 ∷ 0 ∷ 1 ∷ 1 ∷ []) ∷ [])
     ((5 ∷ NONE ∷ 3 ∷ 0 ∷ 0 ∷ 3 ∷ 4 ∷ []) ∷ [])
     -- { [ X }
-    ∷ refusal (mark OpenBracket ∷ word Ident "X" ∷ []) 1 3
+    ∷ refusedRow (mark OpenBracket ∷ word Ident "X" ∷ []) 1 3
     -- { < 0x01 > }
-    ∷ refusal (mark LeftAngle ∷ word Literal "0x01" ∷ mark RightAngle ∷ []) 13 2
+    ∷ refusedRow (mark LeftAngle ∷ word Literal "0x01" ∷ mark RightAngle ∷ []) 13 2
     -- builtin { f ( a uint256 ) }
-    ∷ refusal (word BuiltinFunction "f" ∷ mark OpenParen ∷ word Ident "a" ∷ word Ident "uint256" ∷ mark CloseParen ∷ []) 7 4
+    ∷ refusedRow (word BuiltinFunction "f" ∷ mark OpenParen ∷ word Ident "a" ∷ word Ident "uint256" ∷ mark CloseParen ∷ []) 7 4
     ∷ []
 
 -- further bodies: the table's rows without P, the slips that look right, and one for each rule that a row of the table leaves open
 abbrev pub others : List Row
 others =
     -- { PUSH0 }
-    accepted (byte 0x5f ∷ []) (3 ∷ 1 ∷ 0 ∷ 1 ∷ [])
+    acceptedRow (byte 0x5f ∷ []) (3 ∷ 1 ∷ 0 ∷ 1 ∷ [])
     ((2 ∷ 1 ∷ 2 ∷ 1 ∷ 0 ∷ 0 ∷ 0 ∷ 1 ∷ []) ∷ [])
     ([])
     -- { F ( a b ) }
-    ∷ accepted (word Ident "F" ∷ mark OpenParen ∷ word Ident "a" ∷ word Ident "b" ∷ mark CloseParen ∷ []) (7 ∷ 1 ∷ 2 ∷ NONE ∷ [])
+    ∷ acceptedRow (word Ident "F" ∷ mark OpenParen ∷ word Ident "a" ∷ word Ident "b" ∷ mark CloseParen ∷ []) (7 ∷ 1 ∷ 2 ∷ NONE ∷ [])
     ((4 ∷ 1 ∷ 6 ∷ 1 ∷ 0 ∷ 0 ∷ 2 ∷ 1 ∷ []) ∷ [])
     ((5 ∷ NONE ∷ 3 ∷ 0 ∷ 0 ∷ 3 ∷ 4 ∷ []) ∷ (5 ∷ NONE ∷ 4 ∷ 0 ∷ 0 ∷ 4 ∷ 5 ∷ []) ∷ [])
     -- { PUSH4 0x01 }
-    ∷ accepted (byte 0x63 ∷ word Literal "0x01" ∷ []) (4 ∷ 2 ∷ 0 ∷ 5 ∷ [])
+    ∷ acceptedRow (byte 0x63 ∷ word Literal "0x01" ∷ []) (4 ∷ 2 ∷ 0 ∷ 5 ∷ [])
     ((2 ∷ 1 ∷ 2 ∷ 1 ∷ 0 ∷ 0 ∷ 0 ∷ 1 ∷ []) ∷ (1 ∷ 2 ∷ 3 ∷ 2 ∷ 0 ∷ 0 ∷ 0 ∷ 2 ∷ []) ∷ [])
     ([])
     -- builtin { f ( a b uint256 ) }
-    ∷ accepted (word BuiltinFunction "f" ∷ mark OpenParen ∷ word Ident "a" ∷ word Ident "b" ∷ word Ident "uint256" ∷ mark CloseParen ∷ []) (8 ∷ 1 ∷ 3 ∷ NONE ∷ [])
+    ∷ acceptedRow (word BuiltinFunction "f" ∷ mark OpenParen ∷ word Ident "a" ∷ word Ident "b" ∷ word Ident "uint256" ∷ mark CloseParen ∷ []) (8 ∷ 1 ∷ 3 ∷ NONE ∷ [])
     ((8 ∷ 1 ∷ 7 ∷ 1 ∷ 0 ∷ 0 ∷ 3 ∷ 1 ∷ []) ∷ [])
     ((1 ∷ NONE ∷ 3 ∷ 0 ∷ 0 ∷ 3 ∷ 4 ∷ []) ∷ (1 ∷ NONE ∷ 4 ∷ 0 ∷ 0 ∷ 4 ∷ 5 ∷ []) ∷ (1 ∷ NONE ∷ 5 ∷ 0 ∷ 0 ∷ 5 ∷ 6 ∷ []) ∷ [])
     -- { go : JUMP 0x01 }: a label goes on behind a jump
-    ∷ accepted (word Label "go" ∷ mark Colon ∷ byte 0x56 ∷ word Literal "0x01" ∷ []) (6 ∷ 3 ∷ 0 ∷ 4 ∷ [])
+    ∷ acceptedRow (word Label "go" ∷ mark Colon ∷ byte 0x56 ∷ word Literal "0x01" ∷ []) (6 ∷ 3 ∷ 0 ∷ 4 ∷ [])
     ((5 ∷ 1 ∷ 5 ∷ 1 ∷ 2 ∷ 0 ∷ 0 ∷ 1 ∷ []) ∷ (2 ∷ 3 ∷ 4 ∷ 2 ∷ 0 ∷ 0 ∷ 0 ∷ 3 ∷ []) ∷ (1 ∷ 4 ∷ 5 ∷ 3 ∷ 0 ∷ 0 ∷ 0 ∷ 4 ∷ []) ∷ [])
     ([])
     -- { F ( b ) l : G ( c ) }: the numbers of records are those of the whole table
-    ∷ accepted (word Ident "F" ∷ mark OpenParen ∷ word Ident "b" ∷ mark CloseParen ∷ word Label "l" ∷ mark Colon ∷ word Ident "G" ∷ mark OpenParen ∷ word Ident "c" ∷ mark CloseParen ∷ []) (12 ∷ 3 ∷ 2 ∷ NONE ∷ [])
+    ∷ acceptedRow (word Ident "F" ∷ mark OpenParen ∷ word Ident "b" ∷ mark CloseParen ∷ word Label "l" ∷ mark Colon ∷ word Ident "G" ∷ mark OpenParen ∷ word Ident "c" ∷ mark CloseParen ∷ []) (12 ∷ 3 ∷ 2 ∷ NONE ∷ [])
     ((4 ∷ 1 ∷ 5 ∷ 1 ∷ 0 ∷ 0 ∷ 1 ∷ 1 ∷ []) ∷ (5 ∷ 5 ∷ 11 ∷ 2 ∷ 1 ∷ 1 ∷ 0 ∷ 5 ∷ []) ∷ (4 ∷ 7 ∷ 11 ∷ 3 ∷ 0 ∷ 1 ∷ 1 ∷ 7 ∷ []) ∷ [])
     ((5 ∷ NONE ∷ 3 ∷ 0 ∷ 0 ∷ 3 ∷ 4 ∷ []) ∷ (5 ∷ NONE ∷ 9 ∷ 0 ∷ 0 ∷ 9 ∷ 10 ∷ []) ∷ [])
     -- { 0x00 PUSH2 0x01 0x01 a l : PUSH2 0x01 b }: the literal directly behind a push in the macro part counts n
-    ∷ accepted (word Literal "0x00" ∷ byte 0x61 ∷ word Literal "0x01" ∷ word Literal "0x01" ∷ word Ident "a" ∷ word Label "l" ∷ mark Colon ∷ byte 0x61 ∷ word Literal "0x01" ∷ word Ident "b" ∷ []) (12 ∷ 9 ∷ 0 ∷ 17 ∷ [])
+    ∷ acceptedRow (word Literal "0x00" ∷ byte 0x61 ∷ word Literal "0x01" ∷ word Literal "0x01" ∷ word Ident "a" ∷ word Label "l" ∷ mark Colon ∷ byte 0x61 ∷ word Literal "0x01" ∷ word Ident "b" ∷ []) (12 ∷ 9 ∷ 0 ∷ 17 ∷ [])
     ((1 ∷ 1 ∷ 2 ∷ 1 ∷ 0 ∷ 0 ∷ 0 ∷ 1 ∷ []) ∷ (2 ∷ 2 ∷ 3 ∷ 2 ∷ 0 ∷ 0 ∷ 0 ∷ 2 ∷ []) ∷ (1 ∷ 3 ∷ 4 ∷ 3 ∷ 0 ∷ 0 ∷ 0 ∷ 3 ∷ []) ∷ (1 ∷ 4 ∷ 5 ∷ 4 ∷ 0 ∷ 0 ∷ 0 ∷ 4 ∷ []) ∷ (3 ∷ 5 ∷ 6 ∷ 5 ∷ 0 ∷ 0 ∷ 0 ∷ 5 ∷ []) ∷ (5 ∷ 6 ∷ 11 ∷ 6 ∷ 3 ∷ 0 ∷ 0 ∷ 6 ∷ []) ∷ (2 ∷ 8 ∷ 9 ∷ 7 ∷ 0 ∷ 0 ∷ 0 ∷ 8 ∷ []) ∷ (1 ∷ 9 ∷ 10 ∷ 8 ∷ 0 ∷ 0 ∷ 0 ∷ 9 ∷ []) ∷ (3 ∷ 10 ∷ 11 ∷ 9 ∷ 0 ∷ 0 ∷ 0 ∷ 10 ∷ []) ∷ [])
     ([])
     -- { go : PUSH4 0x01 }: in a label no literal is a push's
-    ∷ accepted (word Label "go" ∷ mark Colon ∷ byte 0x63 ∷ word Literal "0x01" ∷ []) (6 ∷ 3 ∷ 0 ∷ 4 ∷ [])
+    ∷ acceptedRow (word Label "go" ∷ mark Colon ∷ byte 0x63 ∷ word Literal "0x01" ∷ []) (6 ∷ 3 ∷ 0 ∷ 4 ∷ [])
     ((5 ∷ 1 ∷ 5 ∷ 1 ∷ 2 ∷ 0 ∷ 0 ∷ 1 ∷ []) ∷ (2 ∷ 3 ∷ 4 ∷ 2 ∷ 0 ∷ 0 ∷ 0 ∷ 3 ∷ []) ∷ (1 ∷ 4 ∷ 5 ∷ 3 ∷ 0 ∷ 0 ∷ 0 ∷ 4 ∷ []) ∷ [])
     []
     -- { [ X ] < x > }
-    ∷ accepted (mark OpenBracket ∷ word Ident "X" ∷ mark CloseBracket ∷ mark LeftAngle ∷ word Ident "x" ∷ mark RightAngle ∷ []) (8 ∷ 2 ∷ 0 ∷ NONE ∷ [])
+    ∷ acceptedRow (mark OpenBracket ∷ word Ident "X" ∷ mark CloseBracket ∷ mark LeftAngle ∷ word Ident "x" ∷ mark RightAngle ∷ []) (8 ∷ 2 ∷ 0 ∷ NONE ∷ [])
     ((6 ∷ 1 ∷ 4 ∷ 1 ∷ 0 ∷ 0 ∷ 0 ∷ 2 ∷ []) ∷ (7 ∷ 4 ∷ 7 ∷ 2 ∷ 0 ∷ 0 ∷ 0 ∷ 5 ∷ []) ∷ [])
     ([])
     -- { F ( < x > calldata 0x01 ) }
-    ∷ accepted (word Ident "F" ∷ mark OpenParen ∷ mark LeftAngle ∷ word Ident "x" ∷ mark RightAngle ∷ mark Calldata ∷ word Literal "0x01" ∷ mark CloseParen ∷ []) (10 ∷ 1 ∷ 3 ∷ NONE ∷ [])
+    ∷ acceptedRow (word Ident "F" ∷ mark OpenParen ∷ mark LeftAngle ∷ word Ident "x" ∷ mark RightAngle ∷ mark Calldata ∷ word Literal "0x01" ∷ mark CloseParen ∷ []) (10 ∷ 1 ∷ 3 ∷ NONE ∷ [])
     ((4 ∷ 1 ∷ 9 ∷ 1 ∷ 0 ∷ 0 ∷ 3 ∷ 1 ∷ []) ∷ [])
     ((6 ∷ NONE ∷ 4 ∷ 0 ∷ 0 ∷ 3 ∷ 6 ∷ []) ∷ (5 ∷ NONE ∷ 6 ∷ 0 ∷ 0 ∷ 6 ∷ 7 ∷ []) ∷ (4 ∷ NONE ∷ 7 ∷ 0 ∷ 0 ∷ 7 ∷ 8 ∷ []) ∷ [])
     -- builtin { f ( a "s" , uint256 ) }: only a Comma starts the count anew
-    ∷ accepted (word BuiltinFunction "f" ∷ mark OpenParen ∷ word Ident "a" ∷ word Str "s" ∷ mark Comma ∷ word Ident "uint256" ∷ mark CloseParen ∷ []) (9 ∷ 1 ∷ 3 ∷ NONE ∷ [])
+    ∷ acceptedRow (word BuiltinFunction "f" ∷ mark OpenParen ∷ word Ident "a" ∷ word Str "s" ∷ mark Comma ∷ word Ident "uint256" ∷ mark CloseParen ∷ []) (9 ∷ 1 ∷ 3 ∷ NONE ∷ [])
     ((8 ∷ 1 ∷ 8 ∷ 1 ∷ 0 ∷ 0 ∷ 3 ∷ 1 ∷ []) ∷ [])
     ((1 ∷ NONE ∷ 3 ∷ 0 ∷ 0 ∷ 3 ∷ 4 ∷ []) ∷ (2 ∷ NONE ∷ 4 ∷ 0 ∷ 0 ∷ 4 ∷ 5 ∷ []) ∷ (1 ∷ NONE ∷ 6 ∷ 0 ∷ 0 ∷ 6 ∷ 7 ∷ []) ∷ [])
     -- builtin { f ( "s" uint256 0x01 memory a ) }
-    ∷ accepted (word BuiltinFunction "f" ∷ mark OpenParen ∷ word Str "s" ∷ word Ident "uint256" ∷ word Literal "0x01" ∷ mark Memory ∷ word Ident "a" ∷ mark CloseParen ∷ []) (10 ∷ 1 ∷ 4 ∷ NONE ∷ [])
+    ∷ acceptedRow (word BuiltinFunction "f" ∷ mark OpenParen ∷ word Str "s" ∷ word Ident "uint256" ∷ word Literal "0x01" ∷ mark Memory ∷ word Ident "a" ∷ mark CloseParen ∷ []) (10 ∷ 1 ∷ 4 ∷ NONE ∷ [])
     ((8 ∷ 1 ∷ 9 ∷ 1 ∷ 0 ∷ 0 ∷ 4 ∷ 1 ∷ []) ∷ [])
     ((2 ∷ NONE ∷ 3 ∷ 0 ∷ 0 ∷ 3 ∷ 4 ∷ []) ∷ (1 ∷ NONE ∷ 4 ∷ 0 ∷ 0 ∷ 4 ∷ 5 ∷ []) ∷ (3 ∷ NONE ∷ 5 ∷ 0 ∷ 0 ∷ 5 ∷ 6 ∷ []) ∷ (1 ∷ NONE ∷ 7 ∷ 0 ∷ 2 ∷ 6 ∷ 8 ∷ []) ∷ [])
     -- builtin { f ( a "s" uint256 ) }
-    ∷ refusal (word BuiltinFunction "f" ∷ mark OpenParen ∷ word Ident "a" ∷ word Str "s" ∷ word Ident "uint256" ∷ mark CloseParen ∷ []) 7 5
+    ∷ refusedRow (word BuiltinFunction "f" ∷ mark OpenParen ∷ word Ident "a" ∷ word Str "s" ∷ word Ident "uint256" ∷ mark CloseParen ∷ []) 7 5
     -- builtin { f ( calldata ) }, { f ( calldata , ) }, { f ( calldata memory a ) }: a location without its name
-    ∷ refusal (word BuiltinFunction "f" ∷ mark OpenParen ∷ mark Calldata ∷ mark CloseParen ∷ []) 8 4
-    ∷ refusal (word BuiltinFunction "f" ∷ mark OpenParen ∷ mark Calldata ∷ mark Comma ∷ mark CloseParen ∷ []) 8 5
-    ∷ refusal (word BuiltinFunction "f" ∷ mark OpenParen ∷ mark Calldata ∷ mark Memory ∷ word Ident "a" ∷ mark CloseParen ∷ []) 8 4
+    ∷ refusedRow (word BuiltinFunction "f" ∷ mark OpenParen ∷ mark Calldata ∷ mark CloseParen ∷ []) 8 4
+    ∷ refusedRow (word BuiltinFunction "f" ∷ mark OpenParen ∷ mark Calldata ∷ mark Comma ∷ mark CloseParen ∷ []) 8 5
+    ∷ refusedRow (word BuiltinFunction "f" ∷ mark OpenParen ∷ mark Calldata ∷ mark Memory ∷ word Ident "a" ∷ mark CloseParen ∷ []) 8 4
     -- builtin { f ( a , , b ) }: one past the Comma that is eaten
-    ∷ refusal (word BuiltinFunction "f" ∷ mark OpenParen ∷ word Ident "a" ∷ mark Comma ∷ mark Comma ∷ word Ident "b" ∷ mark CloseParen ∷ []) 8 6
+    ∷ refusedRow (word BuiltinFunction "f" ∷ mark OpenParen ∷ word Ident "a" ∷ mark Comma ∷ mark Comma ∷ word Ident "b" ∷ mark CloseParen ∷ []) 8 6
     -- builtin lists with a PrimitiveType t: { f ( t ) }, { f ( a t ) }, { f ( a , t ) }, { f ( a calldata t ) }
-    ∷ refusal (word BuiltinFunction "f" ∷ mark OpenParen ∷ mark PrimitiveType ∷ mark CloseParen ∷ []) 1 3
-    ∷ refusal (word BuiltinFunction "f" ∷ mark OpenParen ∷ word Ident "a" ∷ mark PrimitiveType ∷ mark CloseParen ∷ []) 7 4
-    ∷ refusal (word BuiltinFunction "f" ∷ mark OpenParen ∷ word Ident "a" ∷ mark Comma ∷ mark PrimitiveType ∷ mark CloseParen ∷ []) 1 5
-    ∷ refusal (word BuiltinFunction "f" ∷ mark OpenParen ∷ word Ident "a" ∷ mark Calldata ∷ mark PrimitiveType ∷ mark CloseParen ∷ []) 7 5
+    ∷ refusedRow (word BuiltinFunction "f" ∷ mark OpenParen ∷ mark PrimitiveType ∷ mark CloseParen ∷ []) 1 3
+    ∷ refusedRow (word BuiltinFunction "f" ∷ mark OpenParen ∷ word Ident "a" ∷ mark PrimitiveType ∷ mark CloseParen ∷ []) 7 4
+    ∷ refusedRow (word BuiltinFunction "f" ∷ mark OpenParen ∷ word Ident "a" ∷ mark Comma ∷ mark PrimitiveType ∷ mark CloseParen ∷ []) 1 5
+    ∷ refusedRow (word BuiltinFunction "f" ∷ mark OpenParen ∷ word Ident "a" ∷ mark Calldata ∷ mark PrimitiveType ∷ mark CloseParen ∷ []) 7 5
     -- { F ( a , , ) }: a call list eats none
-    ∷ refusal (word Ident "F" ∷ mark OpenParen ∷ word Ident "a" ∷ mark Comma ∷ mark Comma ∷ mark CloseParen ∷ []) 10 5
+    ∷ refusedRow (word Ident "F" ∷ mark OpenParen ∷ word Ident "a" ∷ mark Comma ∷ mark Comma ∷ mark CloseParen ∷ []) 10 5
     -- { F ( < 0x01 > ) }: 13 is given only for statements
-    ∷ refusal (word Ident "F" ∷ mark OpenParen ∷ mark LeftAngle ∷ word Literal "0x01" ∷ mark RightAngle ∷ mark CloseParen ∷ []) 1 4
+    ∷ refusedRow (word Ident "F" ∷ mark OpenParen ∷ mark LeftAngle ∷ word Literal "0x01" ∷ mark RightAngle ∷ mark CloseParen ∷ []) 1 4
     -- { [ 0x01 ] }, { < x ] }, { go }, { go : : }, { : }
-    ∷ refusal (mark OpenBracket ∷ word Literal "0x01" ∷ mark CloseBracket ∷ []) 12 2
-    ∷ refusal (mark LeftAngle ∷ word Ident "x" ∷ mark CloseBracket ∷ []) 1 3
-    ∷ refusal (word Label "go" ∷ []) 1 2
-    ∷ refusal (word Label "go" ∷ mark Colon ∷ mark Colon ∷ []) 6 3
-    ∷ refusal (mark Colon ∷ []) 5 1
+    ∷ refusedRow (mark OpenBracket ∷ word Literal "0x01" ∷ mark CloseBracket ∷ []) 12 2
+    ∷ refusedRow (mark LeftAngle ∷ word Ident "x" ∷ mark CloseBracket ∷ []) 1 3
+    ∷ refusedRow (word Label "go" ∷ []) 1 2
+    ∷ refusedRow (word Label "go" ∷ mark Colon ∷ mark Colon ∷ []) 6 3
+    ∷ refusedRow (mark Colon ∷ []) 5 1
     ∷ []

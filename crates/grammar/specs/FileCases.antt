@@ -1,13 +1,13 @@
 -- Document 01, "Bodies and files on both sides": the rows of files, input and answer side by side, and further files. Eof follows each.
 use Prim.Native.Nat.{ℕ}
 use mathlib.Core.List.{List, [], _∷_, _++_}
-use lib.ListN.{length}
 use Rattle.tokens.specs.Token.{Token, eofToken}
 use Rattle.tokens.specs.Kind.{Include, Define, Pound, Macro, Fn, Test, Function, Event, Constant, Error, JumpTable, JumpTablePacked, CodeTable, Takes, Returns, View, Indexed, Calldata, Memory, Assign, OpenParen, CloseParen, OpenBrace, CloseBrace, Comma, Colon, FreeStoragePointer, Ident, Label, Literal, Num, Str, PrimitiveType}
 use Rattle.grammar.specs.Reading.{NONE}
 use Rattle.grammar.specs.FileReading.{Definition}
-use Rattle.grammar.specs.FileRecords.{definitionRecords, fileStatements, fileArguments, fileArgumentRecords, fileStatementCount}
-use Rattle.grammar.specs.Result.{Answer, read, refused}
+use Rattle.grammar.specs.FileRecords.{definitionRecords, fileStatements, fileArgumentRecords}
+use Rattle.grammar.specs.Result.{Answer}
+use Rattle.grammar.specs.Call.{refusal, fileNumbers, recordsOf}
 use Rattle.grammar.specs.Cases.{mark, word}
 
 -- what a file call answers: number, cursor, definitions, statements, arguments; and the records of the three tables
@@ -17,16 +17,15 @@ pub record FileOutcome : Type 0 where
   pub statements : List (List ℕ)
   pub arguments : List (List ℕ)
 
--- of an answer; refused, the counts are 0 and there are no records
+-- of an answer, where the tables have room
 abbrev pub fileOutcome : Answer (List Definition) → FileOutcome
-fileOutcome (read ds n) =
+fileOutcome x =
     record {
-      answers = 0 ∷ n ∷ length ds ∷ fileStatementCount ds ∷ length (fileArguments ds) ∷ [];
-      definitions = definitionRecords 0 0 ds;
-      statements = fileStatements 0 0 ds;
-      arguments = fileArgumentRecords ds;
+      answers = fileNumbers x;
+      definitions = recordsOf (definitionRecords 0 0) x;
+      statements = recordsOf (fileStatements 0 0) x;
+      arguments = recordsOf fileArgumentRecords x;
     }
-fileOutcome (refused c q) = record { answers = c ∷ q ∷ 0 ∷ 0 ∷ 0 ∷ []; definitions = []; statements = []; arguments = [] }
 
 -- a number token
 abbrev pub num : ℕ → Token
@@ -48,7 +47,7 @@ acceptedFile input answers definitions statements arguments =
 
 -- a row that is refused: number and cursor
 abbrev pub refusalFile : List Token → ℕ → ℕ → FileRow
-refusalFile input c q = record { input = input; outcome = record { answers = c ∷ q ∷ 0 ∷ 0 ∷ 0 ∷ []; definitions = []; statements = []; arguments = [] } }
+refusalFile input c q = record { input = input; outcome = record { answers = refusal c q; definitions = []; statements = []; arguments = [] } }
 
 -- #define kind name
 abbrev pub head : ℕ → Token → List Token → List Token

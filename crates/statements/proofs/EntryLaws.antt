@@ -8,25 +8,29 @@ use mathlib.Core.List.{List, [], _∷_, _++_, flatten}
 use borrow.Author.Tests.{ltb-false}
 use lib.ListN.{length, getD, take, drop, replicate, length-append}
 use lib.Seq.{sets-eq, take-at}
-use lib.Dec.{ltb}
+use lib.Dec.{eqb, ltb}
+use Rattle.tokens.specs.Number as number
 use Rattle.tokens.specs.Number.{statementWidth, argumentWidth}
 use Rattle.tokens.specs.Token.{view, tokenCount}
 use Rattle.tokens.specs.Kept.{keptOf}
 use Rattle.tokens.specs.Lent.{putAll, clearedBehind}
-use Rattle.tokens.specs.Door.{keptAfter, Prepared}
+use Rattle.tokens.specs.Door as doors
+use Rattle.tokens.specs.Door.{Prepared}
 use Rattle.tokens.specs.declared.door.Door.{Door}
 use Rattle.tokens.specs.declared.door.Door.the-variants.{Ready}
 use Rattle.tokens.proofs.PlaceLaws.{kept-part}
 use Rattle.tokens.proofs.LentLaws.{cleared-none, Wide, records-then-zeros}
 use Rattle.grammar.specs.Reading.{Reading}
 use Rattle.grammar.specs.Rules.{base}
-use Rattle.grammar.specs.Result.{Res, got, bad, number, beyond, answer}
+use Rattle.grammar.specs.Result as why
+use Rattle.grammar.specs.Result.{Res, got, bad, beyond, read, answer}
 use Rattle.grammar.specs.Reader.{bodyFrom, bodyAt}
 use Rattle.grammar.specs.Ranges.{All}
 use Rattle.grammar.specs.Records.{statementRecords, argumentRecords, statementCount, argumentCount}
-use Rattle.grammar.specs.Call.{afterDoor, recordsOf, filled, heldAfter}
+use Rattle.grammar.specs.Call.{refusal, bodyNumbers, recordsOf, filled, heldAfter}
 use Rattle.grammar.specs.PlainLength.{plainLength}
-use Rattle.grammar.proofs.Demand.{demand-3}
+use Rattle.grammar.proofs.Demand.{body-exactly}
+use Rattle.grammar.proofs.Numbers.{body-ours, held-refused}
 use Rattle.grammar.proofs.Recorded.{as-many, as-wide}
 use Rattle.statements.specs.declared.item.Progress.{Progress}
 use Rattle.statements.specs.declared.item.Items.{Items}
@@ -34,7 +38,7 @@ use Rattle.statements.specs.declared.item.Items.the-variants as items
 use Rattle.statements.specs.declared.entry.Body.{Body}
 use Rattle.statements.specs.declared.entry.Body.the-variants.{NotWellFormed, KeptTooShort, StartOutside, Refused, StatementsTooSmall, ArgumentsTooSmall, Read}
 use Rattle.statements.specs.Answers.{BodyParsed}
-use Rattle.statements.specs.Call.{values, leaves, settled, afterReading, readingAt, BodyCall}
+use Rattle.statements.specs.Call.{values, numberOf, Own, afterReading, BodyCall}
 use Rattle.statements.specs.Length.{lengthFrom}
 use Rattle.statements.specs.Settled.{settledItems, Settled, BodyRead}
 use Rattle.statements.proofs.LengthLaws.{length-is}
@@ -59,35 +63,38 @@ none-left w t u same = cleared-none w u ∙ ap (λ (n : ℕ). replicate n 0) sam
 abbrev startProgress : ℕ → Progress
 startProgress start = record { at = start; statements = 0; arguments = 0 }
 
-module _ (st ar : List ℕ) (rd : Reading) (cursor : ℕ) where
+module _ (st ar : List ℕ) (rd : Reading) (start n : ℕ) where
   abbrev endProgress : Progress
-  endProgress = record { at = cursor; statements = statementCount rd; arguments = argumentCount rd }
+  endProgress = record { at = start + n; statements = statementCount rd; arguments = argumentCount rd }
 
-  same-answer : settledItems (items.Done endProgress) (plainLength rd) (length st) (length ar) ≡ settled rd cursor (length st) (length ar)
-  unfolding settled
-  same-answer = refl
+  -- an answer for the reading, and what the settling by it leaves, as they are promised
+  record Answers (st₁ ar₁ : List ℕ) (r : Body) (v : List ℕ) : Type 0 where
+    said : values r ≡ v
+    mine : Own r
+    statementsLeft : clearedBehind statementWidth (getD (values r) 2 0) st₁ ≡ heldAfter (numberOf r) (statementRecords 0 0 rd) st
+    argumentsLeft : clearedBehind argumentWidth (getD (values r) 3 0) ar₁ ≡ heldAfter (numberOf r) (argumentRecords rd) ar
 
-  -- the tables that the settling leaves by the answer r are those that r promises
-  abbrev TablesLeft : Body → List ℕ → List ℕ → Type 0
-  TablesLeft r st₁ ar₁ =
-      (clearedBehind statementWidth (getD (values r) 2 0) st₁ ≡ heldAfter (leaves r) (statementRecords 0 0 rd) st) × (clearedBehind argumentWidth (getD (values r) 3 0) ar₁ ≡ heldAfter (leaves r) (argumentRecords rd) ar)
-
-  both-tables : {st₁ ar₁ : List ℕ} → st₁ ≡ putAll statementWidth st 0 (statementRecords 0 0 rd) → ar₁ ≡ putAll argumentWidth ar 0 (argumentRecords rd)
+  settled-answers : {st₁ ar₁ : List ℕ} → st₁ ≡ putAll statementWidth st 0 (statementRecords 0 0 rd) → ar₁ ≡ putAll argumentWidth ar 0 (argumentRecords rd)
       → length st₁ ≡ length st → length ar₁ ≡ length ar
-      → TablesLeft (settled rd cursor (length st) (length ar)) st₁ ar₁
-  unfolding settled
-  both-tables {st₁} {ar₁} es ea ls la = go (ltb (length st / statementWidth) (statementCount rd)) refl (ltb (length ar / argumentWidth) (argumentCount rd)) refl
+      → Answers st₁ ar₁ (settledItems (items.Done endProgress) (plainLength rd) (length st) (length ar)) (afterReading (read rd n) start (length st) (length ar))
+  unfolding afterReading heldAfter
+  settled-answers {st₁} {ar₁} es ea ls la = go (ltb (length st / statementWidth) (statementCount rd)) refl (ltb (length ar / argumentWidth) (argumentCount rd)) refl
     where
       go : (b : Bool) → ltb (length st / statementWidth) (statementCount rd) ≡ b → (d : Bool) → ltb (length ar / argumentWidth) (argumentCount rd) ≡ d
-          → TablesLeft (cond b (StatementsTooSmall (statementCount rd)) (cond d (ArgumentsTooSmall (argumentCount rd)) (Read cursor (statementCount rd) (argumentCount rd) (plainLength rd)))) st₁ ar₁
-      go true eb d ed = (none-left statementWidth st st₁ ls, none-left argumentWidth ar ar₁ la)
-      go false eb true ed = (none-left statementWidth st st₁ ls, none-left argumentWidth ar ar₁ la)
+          → Answers st₁ ar₁
+          (cond b (StatementsTooSmall (statementCount rd)) (cond d (ArgumentsTooSmall (argumentCount rd)) (Read (start + n) (statementCount rd) (argumentCount rd) (plainLength rd))))
+          (cond b (refusal number.StatementsTooSmall (statementCount rd)) (cond d (refusal number.ArgumentsTooSmall (argumentCount rd)) (bodyNumbers start (read rd n))))
+      go true eb d ed = record { said = refl; mine = tt; statementsLeft = none-left statementWidth st st₁ ls; argumentsLeft = none-left argumentWidth ar ar₁ la }
+      go false eb true ed = record { said = refl; mine = tt; statementsLeft = none-left statementWidth st st₁ ls; argumentsLeft = none-left argumentWidth ar ar₁ la }
       go false eb false ed =
           let many = as-many 0 0 rd in
-          let wide = as-wide 0 0 rd in (
-            records-then-zeros statementWidth (statementRecords 0 0 rd) st (omega arith) (all-wide statementWidth (statementRecords 0 0 rd) (wide .0)) (many .0) (ltb-false _ _ eb) es,
-            records-then-zeros argumentWidth (argumentRecords rd) ar (omega arith) (all-wide argumentWidth (argumentRecords rd) (wide .1)) (many .1) (ltb-false _ _ ed) ea,
-          )
+          let wide = as-wide 0 0 rd in
+          record {
+            said = refl;
+            mine = tt;
+            statementsLeft = records-then-zeros statementWidth (statementRecords 0 0 rd) st (omega arith) (all-wide statementWidth (statementRecords 0 0 rd) (wide .0)) (many .0) (ltb-false _ _ eb) es;
+            argumentsLeft = records-then-zeros argumentWidth (argumentRecords rd) ar (omega arith) (all-wide argumentWidth (argumentRecords rd) (wide .1)) (many .1) (ltb-false _ _ ed) ea;
+          }
 
 -- what the parser read, settled
 pub body-read : (text words kept : List ℕ) (start : ℕ) (st ar : List ℕ) {st₁ ar₁ st₂ ar₂ : List ℕ} {x : Items} {r : Body}
@@ -96,53 +103,63 @@ pub body-read : (text words kept : List ℕ) (start : ℕ) (st ar : List ℕ) {s
     → length ar₁ ≡ length ar
     → Settled x (lengthFrom (view text words kept) start) st₁ ar₁ r st₂ ar₂
     → BodyRead text words kept start st ar r st₂ ar₂
-unfolding bodyAt
+unfolding bodyAt afterReading
 body-read text words kept start st ar {st₁} {ar₁} {st₂} {ar₂} {x} {r} v ls la w = go (bodyFrom base start (drop start (view text words kept))) refl
   where
     go : (y : Res Reading) → bodyFrom base start (drop start (view text words kept)) ≡ y → BodyRead text words kept start st ar r st₂ ar₂
     go (bad y q) e =
         let v′ = rw e at v in
         let w′ = rw (v′ .is) at w in
-        let is : r ≡ Refused (number y) (q + beyond y) = w′ .answer in
+        let is : r ≡ Refused (why.number y) (q + beyond y) = w′ .answer in
+        let ours = body-ours base (view text words kept) start (why.number y) (q + beyond y) (ap answer e) in
         record {
-          answer = is ∙ rw e;
-          statementsHold = w′ .statementsHold ∙ rw is (none-left statementWidth st st₁ ls);
-          argumentsHold = w′ .argumentsHold ∙ rw is (none-left argumentWidth ar ar₁ la);
+          answer = ap values is ∙ rw e;
+          own = rw is ours;
+          statementsHold = w′ .statementsHold ∙ rw is (none-left statementWidth st st₁ ls ∙ sym (held-refused _ _ st ours));
+          argumentsHold = w′ .argumentsHold ∙ rw is (none-left argumentWidth ar ar₁ la ∙ sym (held-refused _ _ ar ours));
         }
     go (got rd k) e =
         let v′ = rw e at v in
         let w′ = rw (v′ .is) at w in
         let long : lengthFrom (view text words kept) start ≡ plainLength rd =
-        length-is (view text words kept) start k rd (demand-3 base (view text words kept) start k rd .0 (ap answer e)) in
-        let is : r ≡ settled rd (start + k) (length st) (length ar) =
-        w′ .answer ∙ rw (ls, la, long, zero-add (statementCount rd), zero-add (argumentCount rd)) (same-answer st ar rd (start + k)) in
-        let tables = both-tables st ar rd (start + k) (v′ .statementsHold) (v′ .argumentsHold) ls la in
+        length-is (view text words kept) start k rd (body-exactly base (view text words kept) start k rd .0 (ap answer e)) in
+        let is : r ≡ settledItems (items.Done (endProgress st ar rd start k)) (plainLength rd) (length st) (length ar) =
+        w′ .answer ∙ rw (ls, la, long, zero-add (statementCount rd), zero-add (argumentCount rd)) in
+        let told = settled-answers st ar rd start k (v′ .statementsHold) (v′ .argumentsHold) ls la in
         record {
-          answer = is ∙ rw e;
-          statementsHold = w′ .statementsHold ∙ rw (e, is) (tables .0);
-          argumentsHold = w′ .argumentsHold ∙ rw (e, is) (tables .1);
+          answer = ap values is ∙ told .said ∙ rw e;
+          own = rw is (told .mine);
+          statementsHold = w′ .statementsHold ∙ rw (e, is) (told .statementsLeft);
+          argumentsHold = w′ .argumentsHold ∙ rw (e, is) (told .argumentsLeft);
         }
 
--- the whole call, by the door's answer
-pub call-from : {text words kept st ar kept′ st′ ar′ : List ℕ} {start : ℕ} {d : Door} {r : Body}
-    → Prepared text words start kept d kept′
-    → r ≡ afterDoor NotWellFormed KeptTooShort StartOutside d (afterReading (readingAt text words start) start (length st) (length ar))
-    → st′ ≡ heldAfter (leaves r) (recordsOf (statementRecords 0 0) (readingAt text words start)) st
-    → ar′ ≡ heldAfter (leaves r) (recordsOf argumentRecords (readingAt text words start)) ar
-    → BodyCall text words start kept st ar r kept′ st′ ar′
-call-from {text} {words} {kept} {st} {ar} {start = start} {d = d} {r = r} p e f g =
-    record {
-      answer = e ∙ ap (λ (x : Door). afterDoor NotWellFormed KeptTooShort StartOutside x (afterReading (readingAt text words start) start (length st) (length ar))) (p .answer);
-      list = p .list ∙ ap (λ (x : Door). keptAfter x words kept) (p .answer);
-      statementsHold = f;
-      argumentsHold = g;
-    }
-
+-- the whole call, by the door's answer: let through, what was read
 pub call-read : {text words kept st ar kept′ st′ ar′ : List ℕ} {start n : ℕ} {d : Door} {r : Body}
     → Prepared text words start kept d kept′
     → d ≡ Ready n
     → BodyRead text words (take (n - 0) kept′) start st ar r st′ ar′
     → BodyCall text words start kept st ar r kept′ st′ ar′
-call-read {text} {words} {kept} {st} {ar} {start = start} {r = r} p e v =
+call-read {text} {words} {kept} {start = start} p e v =
     let v′ = rw (kept-part text words start kept p e .0) at v in
-    call-from p (rw e (v′ .answer)) (v′ .statementsHold) (v′ .argumentsHold)
+    let said = ap doors.values (sym e) ∙ p .answer in
+    record { answer = v′ .answer ∙ rw (sym said); own = v′ .own; list = p .list; statementsHold = v′ .statementsHold; argumentsHold = v′ .argumentsHold }
+
+-- 30, 35 and 31: nothing lent has changed
+pub call-refused : {text words kept st ar kept′ : List ℕ} {start c q : ℕ} {d x : Door} {r : Body}
+    → Prepared text words start kept x kept′
+    → x ≡ d
+    → doors.values d ≡ (c, q)
+    → eqb c 0 ≡ false
+    → ((rs : List (List ℕ)) (lent : List ℕ) → heldAfter c rs lent ≡ lent)
+    → values r ≡ refusal c q
+    → Own r
+    → BodyCall text words start kept st ar r kept′ st ar
+call-refused {c = c} {q = q} p e f z h is own =
+    let said = ap doors.values (sym e) ∙ p .answer in
+    record {
+      answer = is ∙ rw (sym said, f, z);
+      own = own;
+      list = p .list;
+      statementsHold = rw is (sym (h _ _));
+      argumentsHold = rw is (sym (h _ _));
+    }

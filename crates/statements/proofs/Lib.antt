@@ -7,4 +7,3 @@ pub mod LengthLaws
 pub mod EntryLaws
 pub mod Fixed
 pub mod Bounds
-pub mod Demand3

@@ -16,7 +16,7 @@ use Rattle.statements.specs.declared.item.Items.{Items}
 use Rattle.statements.specs.declared.item.Items.the-variants as items
 use Rattle.statements.specs.declared.entry.Body.{Body}
 use Rattle.statements.specs.declared.entry.Body.the-variants.{Refused, StatementsTooSmall, ArgumentsTooSmall, Read}
-use Rattle.statements.specs.Call.{values, afterReading, leaves}
+use Rattle.statements.specs.Call.{values, numberOf, Own, afterReading}
 
 -- the answer for what was read, where the plain length is `long` and the tables have so many words
 abbrev pub settledItems : Items → ℕ → ℕ → ℕ → Body
@@ -34,6 +34,7 @@ pub record Settled (read : Items) (long : ℕ) (statements arguments : List ℕ)
 
 -- the body from a start of a kept list
 pub record BodyRead (text words kept : List ℕ) (start : ℕ) (statements arguments : List ℕ) (r : Body) (statements′ arguments′ : List ℕ) : Type 0 where
-  pub answer : r ≡ afterReading (bodyAt base (view text words kept) start) start (length statements) (length arguments)
-  pub statementsHold : statements′ ≡ heldAfter (leaves r) (recordsOf (statementRecords 0 0) (bodyAt base (view text words kept) start)) statements
-  pub argumentsHold : arguments′ ≡ heldAfter (leaves r) (recordsOf argumentRecords (bodyAt base (view text words kept) start)) arguments
+  pub answer : values r ≡ afterReading (bodyAt base (view text words kept) start) start (length statements) (length arguments)
+  pub own : Own r
+  pub statementsHold : statements′ ≡ heldAfter (numberOf r) (recordsOf (statementRecords 0 0) (bodyAt base (view text words kept) start)) statements
+  pub argumentsHold : arguments′ ≡ heldAfter (numberOf r) (recordsOf argumentRecords (bodyAt base (view text words kept) start)) arguments

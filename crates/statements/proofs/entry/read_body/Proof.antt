@@ -1,7 +1,8 @@
 use mathlib.Core.Path.{refl}
 use denote.Ref.{now}
-use Rattle.statements.proofs.EntryLaws.{call-from, call-read}
+use Rattle.statements.proofs.EntryLaws.{call-refused, call-read}
 use Rattle.tokens.proofs.PlaceLaws.{kept-part}
+use Rattle.grammar.specs.Call.{heldAfter}
 use borrow.Author.Needs.{needs}
 use Rattle.statements.proofs.entry.read_body.Statement.{statement}
 use Rattle.statements.proofs.entry.read_body.Tie as tie
@@ -42,19 +43,22 @@ same-length : tie.Need-same-length
 same-length c = search needs
 
 returns : tie.Need-returns
-returns c = call-from (rw (c .before .at .given .1) at (c .before .before .before .before .before .prepare .ensures)) refl refl refl
+unfolding heldAfter
+returns c = call-refused (c .before .before .before .before .before .prepare .ensures) (c .before .at .given .1) refl refl (λ rs lent. refl) refl tt
 
 same-length-2 : tie.Need-same-length-2
 same-length-2 c = search needs
 
 returns-2 : tie.Need-returns-2
-returns-2 c = call-from (rw (c .before .count .given .1) at (c .before .before .before .before .before .prepare .ensures)) refl refl refl
+unfolding heldAfter
+returns-2 c = call-refused (c .before .before .before .before .before .prepare .ensures) (c .before .count .given .1) refl refl (λ rs lent. refl) refl tt
 
 same-length-3 : tie.Need-same-length-3
 same-length-3 c = search needs
 
 returns-3 : tie.Need-returns-3
-returns-3 c = call-from (rw (c .before .at2 .given .1) at (c .before .before .before .before .before .prepare .ensures)) refl refl refl
+unfolding heldAfter
+returns-3 c = call-refused (c .before .before .before .before .before .prepare .ensures) (c .before .at2 .given .1) refl refl (λ rs lent. refl) refl tt
 
 same-length-4 : tie.Need-same-length-4
 same-length-4 c = search needs
