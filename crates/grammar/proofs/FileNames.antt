@@ -15,7 +15,7 @@ use Rattle.grammar.specs.Grammar.{Many, none, more}
 use Rattle.grammar.specs.FileReading.{Definition, isMacro}
 use Rattle.grammar.specs.FileGrammar.{repeats, rememberName, Fresh, fresh, File}
 use Rattle.grammar.specs.FileFollows.{macroNames, AllDifferent}
-use Rattle.grammar.specs.Ranges.{All}
+use Rattle.grammar.specs.Facts.{All}
 
 -- no definition repeats a name of those before it
 abbrev Distinct : List (List ℕ) → List Definition → Type 0

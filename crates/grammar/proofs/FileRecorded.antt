@@ -1,20 +1,17 @@
--- Theorem 2 of files: the records of a file are as many as counted, each as wide as it should be, numbered from each definition on, and the definition
--- records say where the others are.
+-- Theorem 2 of files: the records of a file are as many as counted, each as wide as it should be.
 use Prim.Native.Nat.{ℕ, suc, _+_}
-use native.Mathlib.Nat.{add-zero}
 use native.Mathlib.Omega.{arith}
-use mathlib.Core.Path.{_≡_, refl, sym, _∙_, ap}
-use mathlib.Core.List.{List, [], _∷_, _++_, map, append-assoc}
-use lib.ListN.{length, take, drop, length-append, length-map}
-use lib.Seq.{take-at, drop-at}
+use mathlib.Core.Path.{_≡_, refl, ap}
+use mathlib.Core.List.{List, [], _∷_, map}
+use lib.ListN.{length, length-append, length-map}
+use Rattle.tokens.specs.Number.{definitionWidth, statementWidth, argumentWidth}
 use Rattle.grammar.specs.Reading.{Argument}
 use Rattle.grammar.specs.Records.{argumentRecord}
-use Rattle.grammar.specs.Ranges.{All, Numbered, Eight, Seven}
+use Rattle.grammar.specs.Facts.{All, HasWords}
 use Rattle.grammar.specs.FileReading.{Value, literalAt, pointerAt, TableSort, TableEntry, Form, anImport, aFunction, anEvent, aDefinedConstant, anError, aMacro, aTable, Definition}
-use Rattle.grammar.specs.FileRecords.{inputsOf, outputsOf, innerArguments, formArguments, entryRecords, formCount, formStatements, lastWords, behindDeclared, definitionRecord, definitionRecords, fileStatements, fileArguments, fileArgumentRecords, fileStatementCount}
-use Rattle.grammar.specs.FileFollows.{Twelve, NumberedFile, NumberedStatements, Points}
+use Rattle.grammar.specs.FileRecords.{formArguments, entryRecords, formCount, formStatements, lastWords, behindDeclared, definitionRecord, definitionRecords, fileStatements, fileArguments, fileArgumentRecords, fileStatementCount}
 use Rattle.grammar.proofs.Lists.{all-append}
-use Rattle.grammar.proofs.Recorded.{as-many, as-wide, as-numbered}
+use Rattle.grammar.proofs.Recorded.{as-many, as-wide}
 
 entries-many : (sort : TableSort) (i a : ℕ) (es : List TableEntry) → length (entryRecords sort i a es) ≡ length es
 unfolding entryRecords
@@ -66,7 +63,7 @@ last-wide (anError args) = refl
 last-wide (aMacro sort args tk rt r) = refl
 last-wide (aTable sort es) = refl
 
-definitions-wide : (i a : ℕ) (ds : List Definition) → All Twelve (definitionRecords i a ds)
+definitions-wide : (i a : ℕ) (ds : List Definition) → All (HasWords definitionWidth) (definitionRecords i a ds)
 unfolding definitionRecords definitionRecord
 definitions-wide i a [] = tt
 definitions-wide i a (d ∷ ds) = (
@@ -74,12 +71,12 @@ definitions-wide i a (d ∷ ds) = (
   definitions-wide (i + formCount (d .form)) (a + length (formArguments (d .form))) ds,
 )
 
-entries-wide : (sort : TableSort) (i a : ℕ) (es : List TableEntry) → All Eight (entryRecords sort i a es)
+entries-wide : (sort : TableSort) (i a : ℕ) (es : List TableEntry) → All (HasWords statementWidth) (entryRecords sort i a es)
 unfolding entryRecords
 entries-wide sort i a [] = tt
 entries-wide sort i a (e ∷ es) = (refl, entries-wide sort (suc i) a es)
 
-form-wide : (i a : ℕ) (f : Form) → All Eight (formStatements i a f)
+form-wide : (i a : ℕ) (f : Form) → All (HasWords statementWidth) (formStatements i a f)
 unfolding formStatements
 form-wide i a anImport = tt
 form-wide i a (aFunction ins ty outs) = tt
@@ -89,82 +86,19 @@ form-wide i a (anError args) = tt
 form-wide i a (aMacro sort args tk rt r) = as-wide i a r .0
 form-wide i a (aTable sort es) = entries-wide sort i a es
 
-statements-wide : (i a : ℕ) (ds : List Definition) → All Eight (fileStatements i a ds)
+statements-wide : (i a : ℕ) (ds : List Definition) → All (HasWords statementWidth) (fileStatements i a ds)
 unfolding fileStatements
 statements-wide i a [] = tt
 statements-wide i a (d ∷ ds) =
-    all-append Eight (formStatements i (behindDeclared a (d .form)) (d .form)) (fileStatements (i + formCount (d .form)) (a + length (formArguments (d .form))) ds)
+    all-append (HasWords statementWidth) (formStatements i (behindDeclared a (d .form)) (d .form)) (fileStatements (i + formCount (d .form)) (a + length (formArguments (d .form))) ds)
     (form-wide i (behindDeclared a (d .form)) (d .form))
     (statements-wide (i + formCount (d .form)) (a + length (formArguments (d .form))) ds)
 
-arguments-wide : (args : List Argument) → All Seven (map argumentRecord args)
+arguments-wide : (args : List Argument) → All (HasWords argumentWidth) (map argumentRecord args)
 arguments-wide [] = tt
 arguments-wide (b ∷ bs) = (refl, arguments-wide bs)
 
 -- each as wide as it should be
-pub file-as-wide : (i a : ℕ) (ds : List Definition) → All Twelve (definitionRecords i a ds) × All Eight (fileStatements i a ds) × All Seven (fileArgumentRecords ds)
+pub file-as-wide : (i a : ℕ) (ds : List Definition) → All (HasWords definitionWidth) (definitionRecords i a ds) × All (HasWords statementWidth) (fileStatements i a ds) × All (HasWords argumentWidth) (fileArgumentRecords ds)
 unfolding fileArgumentRecords
 file-as-wide i a ds = (definitions-wide i a ds, statements-wide i a ds, arguments-wide (fileArguments ds))
-
-entries-numbered : (sort : TableSort) (i a : ℕ) (es : List TableEntry) → Numbered i a (entryRecords sort i a es)
-unfolding entryRecords
-entries-numbered sort i a [] = tt
-entries-numbered sort i a (e ∷ es) = (refl, refl, rw (add-zero a) (entries-numbered sort (suc i) a es))
-
-form-numbered : (i a : ℕ) (f : Form) → Numbered i a (formStatements i a f)
-unfolding formStatements
-form-numbered i a anImport = tt
-form-numbered i a (aFunction ins ty outs) = tt
-form-numbered i a (anEvent args) = tt
-form-numbered i a (aDefinedConstant v) = tt
-form-numbered i a (anError args) = tt
-form-numbered i a (aMacro sort args tk rt r) = as-numbered i a r
-form-numbered i a (aTable sort es) = entries-numbered sort i a es
-
--- numbered from each definition on
-pub file-as-numbered : (i a : ℕ) (ds : List Definition) → NumberedFile i a ds (definitionRecords i a ds) × NumberedStatements i a ds
-unfolding definitionRecords definitionRecord
-file-as-numbered i a [] = (tt, tt)
-file-as-numbered i a (d ∷ ds) =
-    let r = file-as-numbered (i + formCount (d .form)) (a + length (formArguments (d .form))) ds in
-    ((refl, refl, refl, r .0), (form-numbered i (behindDeclared a (d .form)) (d .form), r .1))
-
--- a stretch behind another
-middle : {A : Type 0} (xs ys zs : List A) (i n : ℕ) → length xs ≡ i → length ys ≡ n → take n (drop i (xs ++ (ys ++ zs))) ≡ ys
-middle xs ys zs i n e f = ap (take n) (drop-at xs (ys ++ zs) i e) ∙ take-at ys zs n f
-
-points : (args : List Argument) (stmts : List (List ℕ)) (i a : ℕ) (ds : List Definition) (before : List Argument) (above : List (List ℕ))
-    → args ≡ before ++ fileArguments ds
-    → stmts ≡ above ++ fileStatements i a ds
-    → length before ≡ a
-    → length above ≡ i
-    → Points args stmts i a ds
-unfolding fileArguments fileStatements formArguments definitionRecord
-points args stmts i a [] before above e f g h = tt
-points args stmts i a (d ∷ ds) before above e f g h = (
-  rw (e, append-assoc ins (outs ++ inner) (fileArguments ds)) (middle before ins ((outs ++ inner) ++ fileArguments ds) a (length ins) g refl),
-  rw (e, append-assoc ins (outs ++ inner) (fileArguments ds), append-assoc outs inner (fileArguments ds), sym (append-assoc before ins (outs ++ (inner ++ fileArguments ds))))
-      (middle (before ++ ins) outs (inner ++ fileArguments ds) (a + length ins) (length outs) (length-append before ins ∙ ap (λ k. k + length ins) g) refl),
-  rw f (middle above mine (fileStatements (i + formCount (d .form)) (a + length (formArguments (d .form))) ds) i (formCount (d .form)) h (form-many i (behindDeclared a (d .form)) (d .form))),
-  points args stmts (i + formCount (d .form)) (a + length (formArguments (d .form))) ds (before ++ formArguments (d .form)) (above ++ mine)
-      (e ∙ sym (append-assoc before (formArguments (d .form)) (fileArguments ds)))
-      (f ∙ sym (append-assoc above mine (fileStatements (i + formCount (d .form)) (a + length (formArguments (d .form))) ds)))
-      (length-append before (formArguments (d .form)) ∙ ap (λ k. k + length (formArguments (d .form))) g)
-      (omega (arith, length-append above mine, form-many i (behindDeclared a (d .form)) (d .form))),
-)
-  where
-    ins : List Argument
-    ins = inputsOf (d .form)
-
-    outs : List Argument
-    outs = outputsOf (d .form)
-
-    inner : List Argument
-    inner = innerArguments (d .form)
-
-    mine : List (List ℕ)
-    mine = formStatements i (behindDeclared a (d .form)) (d .form)
-
--- and a definition record says where its arguments, outputs and statements are
-pub file-points : (ds : List Definition) → Points (fileArguments ds) (fileStatements 0 0 ds) 0 0 ds
-file-points ds = points (fileArguments ds) (fileStatements 0 0 ds) 0 0 ds [] [] refl refl refl refl

@@ -26,7 +26,6 @@ use Rattle.grammar.specs.Tables.{recordOf, NameWords, Flat, Walk}
 use Rattle.grammar.specs.FileTables.{Perhaps, nothingThere, oneThere, TypedWords, typedWords, ParenTable, parenTable, CountAt, noCount, count, SignAt, noSign, sign, ValueAt, literalValue, pointerValue, MacroAt, macroAt, fnAt, testAt, EntryTable, noEntries, entry, TableAt, jumpTableAt, packedTableAt, codeTableAt, Head, Words, DefinitionAt, importAt, functionAt, eventAt, constantDefinedAt, errorAt, macroDefinedAt, tableDefinedAt, definitionWords, FileTable, noDefinitions, defined, Braced, StatementsOf}
 use Rattle.grammar.proofs.Standing.{Standing, standing-head, standing-tail, standing-front, standing-back}
 use Rattle.grammar.proofs.FileRecorded.{form-many}
-use Rattle.grammar.proofs.FileCover.{defined-range}
 use Rattle.grammar.proofs.Demand.{body-some}
 use Rattle.grammar.proofs.Tabled.{Stored, stands-head, stored-front, stored-back, list-tabled, name-tabled, arguments-front, arguments-back, body-tabled, body-walked}
 
@@ -242,6 +241,11 @@ definition-tabled m kept statements table i a p xs d (define {xs = us} {f = f} t
     r (standing-tail kept (suc (suc p)) n us hn) hs ha
 
 -- ---- files
+
+-- a definition begins at its place and ends behind its tokens
+defined-range : (m : Rules) (p : ℕ) (xs : List Token) (d : Definition) → Defined m p xs d → (d .first ≡ p) × (d .end ≡ p + length xs) × (p < d .end)
+defined-range m p xs d (include i s e f) = (refl, omega arith, omega arith)
+defined-range m p xs d (define t k n e f r) = (refl, omega arith, omega arith)
 
 file-moved : {kept : List Token} {definitions statements table : List ℕ} {d k i n a m p p′ q q′ : ℕ} → p ≡ p′ → q ≡ q′ → FileTable kept definitions statements table d k i n a m p q → FileTable kept definitions statements table d k i n a m p′ q′
 file-moved f g h = rw g at (rw f at h)

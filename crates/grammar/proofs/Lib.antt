@@ -5,7 +5,6 @@ pub mod Holds
 pub mod Sound
 pub mod Complete
 pub mod Demand
-pub mod Cover
 pub mod Recorded
 pub mod Places
 pub mod Stops
@@ -21,8 +20,6 @@ pub mod FileDemand
 pub mod Numbers
 pub mod FileNames
 pub mod FileRecorded
-pub mod FileCover
 pub mod FileBounds
-pub mod FilePlaces
 pub mod Tabled
 pub mod FileTabled

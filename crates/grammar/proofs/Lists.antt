@@ -9,7 +9,7 @@ use lib.ListN.{take, drop}
 use lib.Seq.{take-take, take-nil}
 use Rattle.tokens.specs.Token.{Token, tokenAt}
 use Rattle.grammar.specs.Follows.{proper, allProper}
-use Rattle.grammar.specs.Ranges.{All}
+use Rattle.grammar.specs.Facts.{All}
 
 pub drop-take : (n m : ℕ) (ts : List Token) → drop n (take (n + m) ts) ≡ take m (drop n ts)
 drop-take zero m ts = ap (λ k. take k ts) (zero-add m)

@@ -17,7 +17,7 @@ use Rattle.grammar.specs.Rules.{Rules}
 use Rattle.grammar.specs.Grammar.{Many, none, more, Item, literal, opcode, push, labelCall, invocation, constant, argumentCall, builtin, forget, LabelGroup, group, remember, Body, body}
 use Rattle.grammar.specs.Reader.{endsItems, endsGroups}
 use Rattle.grammar.specs.Follows.{Follows}
-use Rattle.grammar.specs.Ranges.{All, innerOf, simples, valueKind, At, NotCalled}
+use Rattle.grammar.specs.Facts.{All, innerOf, simples, valueKind, At, NotCalled}
 use Rattle.grammar.proofs.Lists.{all-append, all-map}
 use Rattle.grammar.proofs.Complete.{calm, calm-open, calm-ends, many-first, item-opens, group-opens}
 

@@ -14,7 +14,7 @@ use Rattle.grammar.specs.Reading.{Argument, Entry, Simple, Group, Readin
 use Rattle.grammar.specs.Rules.{Rules}
 use Rattle.grammar.specs.Grammar.{Many, none, more, Separated, alone, comma, counts, Closed, closed, CallArgument, callLiteral, callName, callCalldata, callAngled, calldata, memory, storage, bare, placed, BuiltinArgument, builtinString, builtinLiteral, builtinName, Item, literal, opcode, push, labelCall, invocation, constant, argumentCall, builtin, forget, LabelGroup, group, remember, Body, body}
 use Rattle.grammar.specs.Follows.{Follows, FirstWrong}
-use Rattle.grammar.specs.Ranges.{All}
+use Rattle.grammar.specs.Facts.{All}
 use Rattle.grammar.proofs.Lists.{all-append, not-less}
 
 -- a token that is no Eof

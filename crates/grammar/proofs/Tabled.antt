@@ -17,7 +17,7 @@ use Rattle.grammar.specs.Rules.{Rules}
 use Rattle.grammar.specs.Grammar.{Many, none, more, Item, literal, opcode, push, labelCall, invocation, constant, argumentCall, builtin, forget, LabelGroup, group, remember, Separated, alone, comma, Closed, closed, CallArgument, callLiteral, callName, callCalldata, callAngled, NameArgument, bare, placed, BuiltinArgument, builtinString, builtinLiteral, builtinName, Body, body}
 use Rattle.grammar.specs.Records.{typeOf, argumentsOf, groupArguments, allArguments, simpleRecords, groupRecords, groupCount, argumentRecord, statementRecords, argumentRecords, statementCount, argumentCount}
 use Rattle.grammar.specs.Follows.{Follows}
-use Rattle.grammar.specs.Ranges.{All, innerOf, simples, NotCalled}
+use Rattle.grammar.specs.Facts.{All, innerOf, simples, NotCalled}
 use Rattle.grammar.specs.Call.{filled}
 use Rattle.grammar.specs.Tables.{recordOf, Stands, StatementAt, literalAt, opcodeAt, labelCallAt, invocationAt, constantAt, argumentCallAt, builtinAt, StatementTable, noStatements, statement, LabelTable, noLabels, label, CallWords, callLiteralWords, callNameWords, callCalldataWords, callAngledWords, NameWords, bareWords, placedWords, BuiltinWords, builtinStringWords, builtinLiteralWords, builtinNameWords, ListTable, noArguments, argument, argumentComma, BodyTable, bodyTable, endWord, Flat, Walk, arrived, onward}
 use Rattle.grammar.proofs.Lists.{all-front, all-back}

@@ -3,18 +3,15 @@ use Prim.Native.Nat.{ℕ, suc, _+_, _≤_, _<_}
 use mathlib.Core.Path.{_≡_}
 use mathlib.Core.Bool.{Bool, true, false, cond, _&&_, _||_}
 use mathlib.Core.List.{List, [], _∷_, _++_}
-use lib.ListN.{length, take, drop, getD}
+use lib.ListN.{length, take, drop}
 use lib.Dec.{eqb, leb}
 use Rattle.tokens.specs.Token.{Token, tokenAt}
-use Rattle.tokens.specs.Kind.{Eof, Include, Define, Function, Event, Error, FreeStoragePointer, Ident, Literal, Str}
+use Rattle.tokens.specs.Kind.{Eof, Function, Event, Error}
 use Rattle.tokens.specs.Name.{oneOf}
-use Rattle.grammar.specs.Reading.{Argument}
 use Rattle.grammar.specs.Rules.{Rules}
-use Rattle.grammar.specs.Ranges.{All, Numbered}
 use Rattle.grammar.specs.Follows.{allProper, past}
-use Rattle.grammar.specs.FileReading.{Value, literalAt, pointerAt, TableEntry, Form, anImport, aFunction, anEvent, aDefinedConstant, anError, aMacro, aTable, Definition, isMacro}
+use Rattle.grammar.specs.FileReading.{Definition, isMacro}
 use Rattle.grammar.specs.FileGrammar.{File, Defined, repeats}
-use Rattle.grammar.specs.FileRecords.{inputsOf, outputsOf, formArguments, formCount, formStatements, behindDeclared, definitionRecord}
 
 -- Eof stands at n, and the n tokens before it are a file that reads ds
 abbrev pub FollowsFile : Rules → Bool → List Token → ℕ → List Definition → Type 0
@@ -83,62 +80,3 @@ pub record CursorAt (m : Rules) (kept : List Token) (c q w : ℕ) : Type 0 where
 -- the numbers that a definition can be refused with: 1 to 13; 22 only where a rule set forbids that a label's name repeats
 abbrev pub isDefinitionNumber : Rules → ℕ → Bool
 isDefinitionNumber m c = (leb 1 c && leb c 13) || (m .namesOnce && eqb c 22)
-
--- a definition record has 12 words
-abbrev pub Twelve : List ℕ → Type 0
-Twelve w = length w ≡ 12
-
--- definition records and the reading they are of: arguments from number a on, outputs behind them, statements from number i on, the next definition's behind
--- all of these
-abbrev pub NumberedFile : ℕ → ℕ → List Definition → List (List ℕ) → Type 0
-NumberedFile i a [] [] = Unit {0}
-NumberedFile i a [] (w ∷ ws) = ⊥
-NumberedFile i a (d ∷ ds) [] = ⊥
-NumberedFile i a (d ∷ ds) (w ∷ ws) =
-    (getD w 4 0 ≡ a)
-    × (getD w 6 0 ≡ a + getD w 5 0)
-    × (getD w 8 0 ≡ i)
-    × NumberedFile (i + getD w 9 0) (a + length (formArguments (d .form))) ds ws
-
--- the statement records of each definition, numbered as for a body, behind its declared arguments and outputs
-abbrev pub NumberedStatements : ℕ → ℕ → List Definition → Type 0
-NumberedStatements i a [] = Unit {0}
-NumberedStatements i a (d ∷ ds) =
-    Numbered i (behindDeclared a (d .form)) (formStatements i (behindDeclared a (d .form)) (d .form))
-    × NumberedStatements (i + formCount (d .form)) (a + length (formArguments (d .form))) ds
-
--- where a definition record of i and a says that its arguments, outputs and statements are, there they are: in all the file's arguments and statement records
-abbrev pub Points : List Argument → List (List ℕ) → ℕ → ℕ → List Definition → Type 0
-Points args stmts i a [] = Unit {0}
-Points args stmts i a (d ∷ ds) =
-    (take (getD (definitionRecord i a d) 5 0) (drop (getD (definitionRecord i a d) 4 0) args) ≡ inputsOf (d .form))
-    × (take (getD (definitionRecord i a d) 7 0) (drop (getD (definitionRecord i a d) 6 0) args) ≡ outputsOf (d .form))
-    × (take (getD (definitionRecord i a d) 9 0) (drop (getD (definitionRecord i a d) 8 0) stmts) ≡ formStatements i (behindDeclared a (d .form)) (d .form))
-    × Points args stmts (i + formCount (d .form)) (a + length (formArguments (d .form))) ds
-
--- a definition's range
-abbrev pub definitionRange : Definition → ℕ × ℕ
-definitionRange d = (d .first, d .end)
-
--- a constant's value stands where it says
-abbrev pub ValueStands : List Token → Value → Type 0
-ValueStands kept (literalAt q) = tokenAt kept q .kind ≡ Literal
-ValueStands kept (pointerAt q) = tokenAt kept q .kind ≡ FreeStoragePointer
-
--- and a table's entry
-abbrev pub EntryStands : List Token → TableEntry → Type 0
-EntryStands kept e = (tokenAt kept (e .place) ≡ e .token) × (e .token .kind ≡ Ident)
-
--- the kinds of a definition's first token and of its name, and what else its form points at outside of lists and bodies
-abbrev pub FormStands : List Token → Definition → Form → Type 0
-FormStands kept d anImport = (tokenAt kept (d .first) .kind ≡ Include) × (d .token .kind ≡ Str)
-FormStands kept d (aFunction inputs type outputs) = (tokenAt kept (d .first) .kind ≡ Define) × (d .token .kind ≡ Ident)
-FormStands kept d (anEvent args) = (tokenAt kept (d .first) .kind ≡ Define) × (d .token .kind ≡ Ident)
-FormStands kept d (aDefinedConstant v) = (tokenAt kept (d .first) .kind ≡ Define) × (d .token .kind ≡ Ident) × ValueStands kept v
-FormStands kept d (anError args) = (tokenAt kept (d .first) .kind ≡ Define) × (d .token .kind ≡ Ident)
-FormStands kept d (aMacro sort args takes returns r) = (tokenAt kept (d .first) .kind ≡ Define) × (d .token .kind ≡ Ident)
-FormStands kept d (aTable sort es) = (tokenAt kept (d .first) .kind ≡ Define) × (d .token .kind ≡ Ident) × All (EntryStands kept) es
-
--- a definition's name stands at its name place, and the rest as its form says
-abbrev pub DefinitionStands : List Token → Definition → Type 0
-DefinitionStands kept d = (tokenAt kept (d .name) ≡ d .token) × FormStands kept d (d .form)

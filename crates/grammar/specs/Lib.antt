@@ -10,7 +10,7 @@ pub mod Result
 pub mod Reader
 pub mod Follows
 pub mod Means
-pub mod Ranges
+pub mod Facts
 pub mod Cases
 pub mod FileReading
 pub mod FileGrammar

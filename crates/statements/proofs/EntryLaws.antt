@@ -25,7 +25,7 @@ use Rattle.grammar.specs.Rules.{base}
 use Rattle.grammar.specs.Result as why
 use Rattle.grammar.specs.Result.{Res, got, bad, beyond, read, answer}
 use Rattle.grammar.specs.Reader.{bodyFrom, bodyAt}
-use Rattle.grammar.specs.Ranges.{All}
+use Rattle.grammar.specs.Facts.{All}
 use Rattle.grammar.specs.Records.{statementRecords, argumentRecords, statementCount, argumentCount}
 use Rattle.grammar.specs.Call.{refusal, bodyNumbers, recordsOf, filled, heldAfter}
 use Rattle.grammar.specs.PlainLength.{plainLength}
