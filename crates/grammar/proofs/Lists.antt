@@ -4,8 +4,8 @@ use native.Mathlib.Nat.{zero-add, suc-add}
 use native.Mathlib.Omega.{arith}
 use mathlib.Core.Path.{_≡_, refl, sym, _∙_, ap}
 use mathlib.Core.Bool.{Bool, true, false, _&&_}
-use mathlib.Core.List.{List, [], _∷_, _++_}
-use lib.ListN.{take, drop}
+use mathlib.Core.List.{List, [], _∷_, _++_, map}
+use lib.ListN.{length, take, drop}
 use lib.Seq.{take-take, take-nil}
 use Rattle.tokens.specs.Token.{Token, tokenAt}
 use Rattle.grammar.specs.Follows.{proper, allProper}
@@ -69,6 +69,19 @@ all-back P (x ∷ xs) ys h = all-back P xs ys (h .1)
 pub all-map : {A : Type 0} (P Q : A → Type 0) (xs : List A) → ((x : A) → P x → Q x) → All P xs → All Q xs
 all-map P Q [] f h = tt
 all-map P Q (x ∷ xs) f h = (f x (h .0), all-map P Q xs f (h .1))
+
+-- two functions that give the same list of values agree at each element
+pub all-mapped : {A B : Type 0} (f g : A → B) (xs : List A) → map f xs ≡ map g xs → All (λ x. f x ≡ g x) xs
+all-mapped f g [] e = tt
+all-mapped f g (x ∷ xs) e = (cc, all-mapped f g xs (cc))
+
+-- a place inside a list and before n is inside every list with the same first n tokens
+pub agree-length : (p n : ℕ) (ts us : List Token) → take n ts ≡ take n us → p < n → p < length ts → p < length us
+agree-length p zero ts us e h k = absurd (omega (arith, h))
+agree-length p (suc n) [] us e h k = absurd (omega (arith, k))
+agree-length p (suc n) (t ∷ ts) [] e h k = absurd (omega (arith, ap length e))
+agree-length zero (suc n) (t ∷ ts) (u ∷ us) e h k = omega arith
+agree-length (suc p) (suc n) (t ∷ ts) (u ∷ us) e h k = omega (arith, agree-length p n ts us (cc) (omega arith) (omega arith))
 
 -- of two numbers of which the first is not less
 pub not-less : {a b : ℕ} → ¬ (a < b) → b ≤ a

@@ -7,3 +7,5 @@ pub mod LengthLaws
 pub mod EntryLaws
 pub mod Fixed
 pub mod Bounds
+pub mod Called
+pub mod Demand3
