@@ -10,24 +10,26 @@ use Rattle.tokens.specs.Number.{definitionWidth, statementWidth, argumentWidth}
 use Rattle.tokens.specs.Lent.{clearedBehind}
 use Rattle.tokens.specs.Token.{view}
 use Rattle.tokens.specs.Kept.{keptOf}
-use Rattle.tokens.specs.Door.{door, Prepared, keptAfter}
+use Rattle.tokens.specs.Door as doors
+use Rattle.tokens.specs.Door.{door, Prepared}
 use Rattle.tokens.specs.declared.door.Door.{Door}
-use Rattle.tokens.specs.declared.door.Door.the-variants as doors
+use Rattle.tokens.specs.declared.door.Door.the-variants.{NotWellFormed, KeptTooShort, StartOutside, Ready}
 use Rattle.tokens.proofs.LentLaws.{records-then-zeros}
 use Rattle.tokens.proofs.DoorLaws.{file-not-31}
 use Rattle.tokens.proofs.PlaceLaws.{kept-part}
-use Rattle.grammar.specs.Result.{Res, got, bad, answer}
+use Rattle.grammar.specs.Result.{Res, got, bad, refused, answer}
 use Rattle.grammar.specs.Rules.{base}
 use Rattle.grammar.specs.FileReading.{Definition}
 use Rattle.grammar.specs.FileReader.{fileAt}
 use Rattle.grammar.specs.FileRecords.{definitionRecords, fileStatements, fileArguments, fileArgumentRecords, fileStatementCount}
-use Rattle.grammar.specs.Call.{filled}
+use Rattle.grammar.specs.Call.{filled, heldAfter}
+use Rattle.grammar.proofs.Numbers.{Ours, held-refused}
 use Rattle.files.specs.declared.file.FileRead.{FileRead}
 use Rattle.files.specs.declared.file.FileRead.the-variants as files
 use Rattle.files.specs.declared.entry.File.{File}
 use Rattle.files.specs.declared.entry.File.the-variants as answers
 use Rattle.files.specs.Answers.{FileParsed}
-use Rattle.files.specs.Call.{settled, FileCall}
+use Rattle.files.specs.Call.{afterReading, FileCall}
 use Rattle.files.specs.Taken.{FileTaken}
 use Rattle.statements.proofs.EntryLaws.{filled-none}
 use Rattle.files.proofs.RecordLaws.{definition-count, statement-count, argument-count, definition-wide, statement-wide, argument-wide}
@@ -48,25 +50,30 @@ module _ (de st ar de₁ st₁ ar₁ : List ℕ) (de-same : length de₁ ≡ len
   module _ (zeroed : Zeroed de₁ de₂ × Zeroed st₁ st₂ × Zeroed ar₁ ar₂) where
     -- 1 to 21
     pub taken-refused : (read : Res (List Definition)) (c q : ℕ) (r : FileRead) → FileParsed read de st ar r de₁ st₁ ar₁ → r ≡ files.Refused c q
+        → (answer read ≡ refused c q → Ours c)
         → FileTaken (answer read) de st ar (answers.Refused c q) de₂ st₂ ar₂
-    taken-refused (got ds k) c q r h g = absurd (let z : _≡_ {A = ℕ} 0 1 = cc (h .is) in omega arith)
-    taken-refused (bad y w) c q r h g =
+    unfolding afterReading
+    taken-refused (got ds k) c q r h g small = absurd (let z : _≡_ {A = ℕ} 0 1 = cc (h .is) in omega arith)
+    taken-refused (bad y w) c q r h g small =
+        let ours = small (cc (h .is)) in
         record {
           answer = cc (h .is);
-          definitionsHold = none-left de de₁ de₂ de-same (zeroed .0);
-          statementsHold = none-left st st₁ st₂ st-same (zeroed .1);
-          argumentsHold = none-left ar ar₁ ar₂ ar-same (zeroed .2);
+          own = ours;
+          definitionsHold = none-left de de₁ de₂ de-same (zeroed .0) ∙ sym (held-refused c _ de ours);
+          statementsHold = none-left st st₁ st₂ st-same (zeroed .1) ∙ sym (held-refused c _ st ours);
+          argumentsHold = none-left ar ar₁ ar₂ ar-same (zeroed .2) ∙ sym (held-refused c _ ar ours);
         }
 
     -- 32
     pub taken-32 : (read : Res (List Definition)) (p d i a : ℕ) (r : FileRead) → FileParsed read de st ar r de₁ st₁ ar₁ → r ≡ files.Done p d i a
         → length de₁ / definitionWidth < d
         → FileTaken (answer read) de st ar (answers.DefinitionsTooSmall d) de₂ st₂ ar₂
-    unfolding settled
+    unfolding afterReading heldAfter
     taken-32 (got ds k) p d i a r h g small =
         let count : length ds ≡ d = cc (h .is) in
         record {
           answer = rw (lt-ltb (length de / definitionWidth) (length ds) (rw (count, ← de-same) small)) (cc);
+          own = tt;
           definitionsHold = none-left de de₁ de₂ de-same (zeroed .0);
           statementsHold = none-left st st₁ st₂ st-same (zeroed .1);
           argumentsHold = none-left ar ar₁ ar₂ ar-same (zeroed .2);
@@ -77,12 +84,13 @@ module _ (de st ar de₁ st₁ ar₁ : List ℕ) (de-same : length de₁ ≡ len
     pub taken-33 : (read : Res (List Definition)) (p d i a : ℕ) (r : FileRead) → FileParsed read de st ar r de₁ st₁ ar₁ → r ≡ files.Done p d i a
         → d ≤ length de₁ / definitionWidth → length st₁ / statementWidth < i
         → FileTaken (answer read) de st ar (answers.StatementsTooSmall i) de₂ st₂ ar₂
-    unfolding settled
+    unfolding afterReading heldAfter
     taken-33 (got ds k) p d i a r h g room small =
         let count : length ds ≡ d = cc (h .is) in
         let count′ : fileStatementCount ds ≡ i = cc (h .is) in
         record {
           answer = rw (le-ltb (length de / definitionWidth) (length ds) (rw (count, ← de-same) room), lt-ltb (length st / statementWidth) (fileStatementCount ds) (rw (count′, ← st-same) small)) (cc);
+          own = tt;
           definitionsHold = none-left de de₁ de₂ de-same (zeroed .0);
           statementsHold = none-left st st₁ st₂ st-same (zeroed .1);
           argumentsHold = none-left ar ar₁ ar₂ ar-same (zeroed .2);
@@ -93,7 +101,7 @@ module _ (de st ar de₁ st₁ ar₁ : List ℕ) (de-same : length de₁ ≡ len
     pub taken-34 : (read : Res (List Definition)) (p d i a : ℕ) (r : FileRead) → FileParsed read de st ar r de₁ st₁ ar₁ → r ≡ files.Done p d i a
         → d ≤ length de₁ / definitionWidth → i ≤ length st₁ / statementWidth → length ar₁ / argumentWidth < a
         → FileTaken (answer read) de st ar (answers.ArgumentsTooSmall a) de₂ st₂ ar₂
-    unfolding settled
+    unfolding afterReading heldAfter
     taken-34 (got ds k) p d i a r h g room room′ small =
         let count : length ds ≡ d = cc (h .is) in
         let count′ : fileStatementCount ds ≡ i = cc (h .is) in
@@ -105,6 +113,7 @@ module _ (de st ar de₁ st₁ ar₁ : List ℕ) (de-same : length de₁ ≡ len
                 le-ltb (length st / statementWidth) (fileStatementCount ds) (rw (count′, ← st-same) room′),
                 lt-ltb (length ar / argumentWidth) (length (fileArguments ds)) (rw (count″, ← ar-same) small),
               ) (cc);
+          own = tt;
           definitionsHold = none-left de de₁ de₂ de-same (zeroed .0);
           statementsHold = none-left st st₁ st₂ st-same (zeroed .1);
           argumentsHold = none-left ar ar₁ ar₂ ar-same (zeroed .2);
@@ -116,7 +125,7 @@ module _ (de st ar de₁ st₁ ar₁ : List ℕ) (de-same : length de₁ ≡ len
       → d ≤ length de₁ / definitionWidth → i ≤ length st₁ / statementWidth → a ≤ length ar₁ / argumentWidth
       → (de₂ ≡ clearedBehind definitionWidth d de₁) × (st₂ ≡ clearedBehind statementWidth i st₁) × (ar₂ ≡ clearedBehind argumentWidth a ar₁)
       → FileTaken (answer read) de st ar (answers.Read p d i a) de₂ st₂ ar₂
-  unfolding settled
+  unfolding afterReading heldAfter
   taken-read (got ds k) p d i a r h g room room′ room″ cleared =
       let count : length ds ≡ d = cc (h .is) in
       let count′ : fileStatementCount ds ≡ i = cc (h .is) in
@@ -129,6 +138,7 @@ module _ (de st ar de₁ st₁ ar₁ : List ℕ) (de-same : length de₁ ≡ len
               le-ltb (length st / statementWidth) (fileStatementCount ds) (rw (count′, ← st-same) room′),
               le-ltb (length ar / argumentWidth) (length (fileArguments ds)) (rw (count″, ← ar-same) room″),
             ) (cc);
+        own = tt;
         definitionsHold =
             cleared .0
             ∙ records-then-zeros definitionWidth (definitionRecords 0 0 ds) de (omega arith) (definition-wide 0 0 ds) (definition-count 0 0 ds ∙ count) (rw (← de-same) room) (h .definitionsHold);
@@ -144,19 +154,20 @@ module _ (de st ar de₁ st₁ ar₁ : List ℕ) (de-same : length de₁ ≡ len
 -- ---- each way out of `read_file`
 
 module _ (text words kept kept′ : List ℕ) (r : Door) (prepared : Prepared text words 0 kept r kept′) where
-  listed : kept′ ≡ keptAfter (door text words 0 (length kept)) words kept
-  listed = prepared .list ∙ ap (λ (d : Door). keptAfter d words kept) (prepared .answer)
+  -- what the door said
+  told : {d : Door} → r ≡ d → doors.values d ≡ door text words 0 (length kept)
+  told is = ap doors.values (sym is) ∙ prepared .answer
 
   -- let through: the reading of the kept numbers, which are the first words of the kept list
-  pub called-ready : (n : ℕ) → r ≡ doors.Ready n → (de st ar : List ℕ) (f : File) (de′ st′ ar′ : List ℕ)
+  pub called-ready : (n : ℕ) → r ≡ Ready n → (de st ar : List ℕ) (f : File) (de′ st′ ar′ : List ℕ)
       → FileTaken (fileAt base true (view text words (take (n - 0) kept′))) de st ar f de′ st′ ar′
       → FileCall text words kept de st ar f kept′ de′ st′ ar′
   called-ready n is de st ar f de′ st′ ar′ taken =
-      let door-is : door text words 0 (length kept) ≡ doors.Ready n = sym (prepared .answer) ∙ is in
       let read : FileTaken (fileAt base true (view text words (keptOf words))) de st ar f de′ st′ ar′ = rw (kept-part text words 0 kept prepared is .0) at taken in
       record {
-        answer = rw door-is (read .answer);
-        list = listed;
+        answer = read .answer ∙ rw (sym (told is));
+        own = read .own;
+        list = prepared .list;
         definitionsHold = read .definitionsHold;
         statementsHold = read .statementsHold;
         argumentsHold = read .argumentsHold;
@@ -164,16 +175,14 @@ module _ (text words kept kept′ : List ℕ) (r : Door) (prepared : Prepared te
 
   -- 30 and 35: nothing lent has changed
   module _ (de st ar : List ℕ) (at : ℕ) where
-    pub called-30 : r ≡ doors.NotWellFormed at → FileCall text words kept de st ar (answers.NotWellFormed at) kept′ de st ar
-    called-30 is =
-        let door-is : door text words 0 (length kept) ≡ doors.NotWellFormed at = sym (prepared .answer) ∙ is in
-        record { answer = rw door-is; list = listed; definitionsHold = refl; statementsHold = refl; argumentsHold = refl }
+    pub called-30 : r ≡ NotWellFormed at → FileCall text words kept de st ar (answers.NotWellFormed at) kept′ de st ar
+    unfolding heldAfter
+    called-30 is = record { answer = rw (sym (told is)); own = tt; list = prepared .list; definitionsHold = refl; statementsHold = refl; argumentsHold = refl }
 
-    pub called-35 : r ≡ doors.KeptTooShort at → FileCall text words kept de st ar (answers.KeptTooShort at) kept′ de st ar
-    called-35 is =
-        let door-is : door text words 0 (length kept) ≡ doors.KeptTooShort at = sym (prepared .answer) ∙ is in
-        record { answer = rw door-is; list = listed; definitionsHold = refl; statementsHold = refl; argumentsHold = refl }
+    pub called-35 : r ≡ KeptTooShort at → FileCall text words kept de st ar (answers.KeptTooShort at) kept′ de st ar
+    unfolding heldAfter
+    called-35 is = record { answer = rw (sym (told is)); own = tt; list = prepared .list; definitionsHold = refl; statementsHold = refl; argumentsHold = refl }
 
     -- never given
-    pub called-31 : r ≡ doors.StartOutside at → FileCall text words kept de st ar (answers.NotWellFormed at) kept′ de st ar
-    called-31 is = absurd (file-not-31 text words (length kept) (sym (prepared .answer) ∙ is))
+    pub called-31 : r ≡ StartOutside at → FileCall text words kept de st ar (answers.NotWellFormed at) kept′ de st ar
+    called-31 is = absurd (file-not-31 text words (length kept) (told is))

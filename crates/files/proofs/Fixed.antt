@@ -1,28 +1,68 @@
 -- That any two results meeting a promise are equal. Assumes nothing.
 use Prim.Native.Nat.{ℕ}
-use mathlib.Core.Path.{_≡_, sym, ap, _∙_}
-use mathlib.Core.List.{List}
-use Rattle.grammar.specs.Result.{Res, got}
+use native.Mathlib.Omega.{arith}
+use mathlib.Core.Path.{_≡_, refl, sym, ap, _∙_}
+use mathlib.Core.List.{List, [], _∷_}
+use borrow.Author.Tests.{ne-eqb}
+use lib.ListN.{getD}
+use Rattle.tokens.specs.Number as number
+use Rattle.grammar.specs.Result.{Res, got, choose}
 use Rattle.grammar.specs.Call.{recordsOf, heldAfter}
 use Rattle.grammar.specs.FileReading.{Definition}
 use Rattle.grammar.specs.FileRecords.{definitionRecords, fileStatements, fileArgumentRecords}
 use Rattle.files.specs.declared.file.FileRead.{FileRead}
 use Rattle.files.specs.declared.entry.File.{File}
+use Rattle.files.specs.declared.entry.File.the-variants.{NotWellFormed, KeptTooShort, Refused, DefinitionsTooSmall, StatementsTooSmall, ArgumentsTooSmall, Read}
 use Rattle.files.specs.Answers.{FileParsed}
-use Rattle.files.specs.Call.{leaves, fileReading, FileCall}
+use Rattle.files.specs.Call.{values, numberOf, Own, fileReading, FileCall}
+
+-- no two answers have the same five numbers, where `Refused` keeps to its own
+pub one-file-answer : (r r′ : File) → Own r → Own r′ → values r ≡ values r′ → r ≡ r′
+unfolding choose
+one-file-answer r r′ o o′ e = sym (again r o) ∙ ap told e ∙ again r′ o′
+  where
+    -- the answer of five numbers
+    told : List ℕ → File
+    told v =
+        choose (
+          (0, Read (getD v 1 0) (getD v 2 0) (getD v 3 0) (getD v 4 0))
+          ∷ (number.NotWellFormed, NotWellFormed (getD v 1 0))
+          ∷ (number.KeptTooShort, KeptTooShort (getD v 1 0))
+          ∷ (number.DefinitionsTooSmall, DefinitionsTooSmall (getD v 1 0))
+          ∷ (number.StatementsTooSmall, StatementsTooSmall (getD v 1 0))
+          ∷ (number.ArgumentsTooSmall, ArgumentsTooSmall (getD v 1 0))
+          ∷ [])
+        (Refused (getD v 0 0) (getD v 1 0)) (getD v 0 0)
+
+    again : (r : File) → Own r → told (values r) ≡ r
+    again (NotWellFormed at) o = refl
+    again (KeptTooShort count) o = refl
+    again (Refused c q) o =
+        rw (
+          ne-eqb c 0 (λ e. omega (arith, o .0)),
+          ne-eqb c 30 (λ e. omega (arith, o .1)),
+          ne-eqb c 35 (λ e. omega (arith, o .1)),
+          ne-eqb c 32 (λ e. omega (arith, o .1)),
+          ne-eqb c 33 (λ e. omega (arith, o .1)),
+          ne-eqb c 34 (λ e. omega (arith, o .1)),
+        )
+    again (DefinitionsTooSmall need) o = refl
+    again (StatementsTooSmall need) o = refl
+    again (ArgumentsTooSmall need) o = refl
+    again (Read cursor d s n) o = refl
 
 -- the promise of `read_file`: its answer, and all that is lent
 pub one-call : {text words kept de st ar : List ℕ} {r r′ : File} {k k′ d d′ s s′ a a′ : List ℕ}
     → FileCall text words kept de st ar r k d s a
     → FileCall text words kept de st ar r′ k′ d′ s′ a′
     → (r ≡ r′) × (k ≡ k′) × (d ≡ d′) × (s ≡ s′) × (a ≡ a′)
-one-call {text} {words} {de = de} {st = st} {ar = ar} m n =
-    let same = m .answer ∙ sym (n .answer) in (
+one-call {text} {words} {de = de} {st = st} {ar = ar} {r = r} {r′ = r′} m n =
+    let same = one-file-answer r r′ (m .own) (n .own) (m .answer ∙ sym (n .answer)) in (
       same,
       m .list ∙ sym (n .list),
-      m .definitionsHold ∙ ap (λ (x : File). heldAfter (leaves x) (recordsOf (definitionRecords 0 0) (fileReading text words)) de) same ∙ sym (n .definitionsHold),
-      m .statementsHold ∙ ap (λ (x : File). heldAfter (leaves x) (recordsOf (fileStatements 0 0) (fileReading text words)) st) same ∙ sym (n .statementsHold),
-      m .argumentsHold ∙ ap (λ (x : File). heldAfter (leaves x) (recordsOf fileArgumentRecords (fileReading text words)) ar) same ∙ sym (n .argumentsHold),
+      m .definitionsHold ∙ ap (λ (x : File). heldAfter (numberOf x) (recordsOf (definitionRecords 0 0) (fileReading text words)) de) same ∙ sym (n .definitionsHold),
+      m .statementsHold ∙ ap (λ (x : File). heldAfter (numberOf x) (recordsOf (fileStatements 0 0) (fileReading text words)) st) same ∙ sym (n .statementsHold),
+      m .argumentsHold ∙ ap (λ (x : File). heldAfter (numberOf x) (recordsOf fileArgumentRecords (fileReading text words)) ar) same ∙ sym (n .argumentsHold),
     )
 
 -- of `parse` and `read_definitions` the same

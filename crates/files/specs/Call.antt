@@ -1,9 +1,9 @@
 -- The promise of `read_file`: document 01's answer, and what every lent thing holds afterwards.
-use Prim.Native.Nat.{ℕ, _/_}
+use Prim.Native.Nat.{ℕ, _/_, _<_}
 use mathlib.Core.Path.{_≡_}
 use mathlib.Core.Bool.{true, cond}
 use mathlib.Core.List.{List, [], _∷_}
-use lib.ListN.{length}
+use lib.ListN.{length, getD}
 use lib.Dec.{ltb}
 use Rattle.tokens.specs.Number as number
 use Rattle.tokens.specs.Number.{definitionWidth, statementWidth, argumentWidth}
@@ -15,56 +15,57 @@ use Rattle.grammar.specs.Rules.{base}
 use Rattle.grammar.specs.FileReading.{Definition}
 use Rattle.grammar.specs.FileReader.{fileAt}
 use Rattle.grammar.specs.FileRecords.{definitionRecords, fileStatements, fileArguments, fileArgumentRecords, fileStatementCount}
-use Rattle.grammar.specs.Call.{afterDoor, recordsOf, Leaves, asLent, noRecords, allRecords, heldAfter}
+use Rattle.grammar.specs.Call.{refusal, fileNumbers, afterDoor, recordsOf, heldAfter}
 use Rattle.files.specs.declared.entry.File.{File}
 use Rattle.files.specs.declared.entry.File.the-variants.{NotWellFormed, KeptTooShort, Refused, DefinitionsTooSmall, StatementsTooSmall, ArgumentsTooSmall, Read}
 
 -- document 01's five numbers for each answer: number, cursor, definitions, statements, arguments
 abbrev pub values : File → List ℕ
-values (NotWellFormed at) = number.NotWellFormed ∷ at ∷ 0 ∷ 0 ∷ 0 ∷ []
-values (KeptTooShort count) = number.KeptTooShort ∷ count ∷ 0 ∷ 0 ∷ 0 ∷ []
-values (Refused number cursor) = number ∷ cursor ∷ 0 ∷ 0 ∷ 0 ∷ []
-values (DefinitionsTooSmall need) = number.DefinitionsTooSmall ∷ need ∷ 0 ∷ 0 ∷ 0 ∷ []
-values (StatementsTooSmall need) = number.StatementsTooSmall ∷ need ∷ 0 ∷ 0 ∷ 0 ∷ []
-values (ArgumentsTooSmall need) = number.ArgumentsTooSmall ∷ need ∷ 0 ∷ 0 ∷ 0 ∷ []
+values (NotWellFormed at) = refusal number.NotWellFormed at
+values (KeptTooShort count) = refusal number.KeptTooShort count
+values (Refused c q) = refusal c q
+values (DefinitionsTooSmall need) = refusal number.DefinitionsTooSmall need
+values (StatementsTooSmall need) = refusal number.StatementsTooSmall need
+values (ArgumentsTooSmall need) = refusal number.ArgumentsTooSmall need
 values (Read cursor definitions statements arguments) = 0 ∷ cursor ∷ definitions ∷ statements ∷ arguments ∷ []
 
--- after 30 and 35 nothing lent has changed; any other refusal leaves no records
-abbrev pub leaves : File → Leaves
-leaves (NotWellFormed at) = asLent
-leaves (KeptTooShort count) = asLent
-leaves (Refused c q) = noRecords
-leaves (DefinitionsTooSmall need) = noRecords
-leaves (StatementsTooSmall need) = noRecords
-leaves (ArgumentsTooSmall need) = noRecords
-leaves (Read cursor d s n) = allRecords
+-- the number, 0 accepted
+abbrev pub numberOf : File → ℕ
+numberOf r = getD (values r) 0 0
 
--- an accepted file: 32, 33 and 34 if a table's whole records are fewer than needed
-unfoldable pub settled : List Definition → ℕ → ℕ → ℕ → ℕ → File
-settled ds cursor definitions statements arguments =
-    cond (ltb (definitions / definitionWidth) (length ds)) (DefinitionsTooSmall (length ds))
-    (cond (ltb (statements / statementWidth) (fileStatementCount ds)) (StatementsTooSmall (fileStatementCount ds))
-    (cond (ltb (arguments / argumentWidth) (length (fileArguments ds))) (ArgumentsTooSmall (length (fileArguments ds)))
-    (Read cursor (length ds) (fileStatementCount ds) (length (fileArguments ds)))))
+-- `Refused` is for the reading's own numbers, which lie below the others: so the five numbers tell the answer
+abbrev pub Own : File → Type 0
+Own (NotWellFormed at) = Unit {0}
+Own (KeptTooShort count) = Unit {0}
+Own (Refused c q) = (0 < c) × (c < number.NotWellFormed)
+Own (DefinitionsTooSmall need) = Unit {0}
+Own (StatementsTooSmall need) = Unit {0}
+Own (ArgumentsTooSmall need) = Unit {0}
+Own (Read cursor definitions statements arguments) = Unit {0}
 
--- the first of 1 to 21 in reading order, then 32, 33, 34
-abbrev pub afterReading : Answer (List Definition) → ℕ → ℕ → ℕ → File
-afterReading (read ds n) definitions statements arguments = settled ds n definitions statements arguments
-afterReading (refused c q) definitions statements arguments = Refused c q
+-- the first of 1 to 21 in reading order; for an accepted file 32, 33 and 34, if a table's whole records are fewer than needed
+unfoldable pub afterReading : Answer (List Definition) → ℕ → ℕ → ℕ → List ℕ
+afterReading (refused c q) definitions statements arguments = fileNumbers (refused c q)
+afterReading (read ds n) definitions statements arguments =
+    cond (ltb (definitions / definitionWidth) (length ds)) (refusal number.DefinitionsTooSmall (length ds))
+    (cond (ltb (statements / statementWidth) (fileStatementCount ds)) (refusal number.StatementsTooSmall (fileStatementCount ds))
+    (cond (ltb (arguments / argumentWidth) (length (fileArguments ds))) (refusal number.ArgumentsTooSmall (length (fileArguments ds)))
+    (fileNumbers (read ds n))))
 
 -- the reading of the view, with the rule on names
 abbrev pub fileReading : List ℕ → List ℕ → Answer (List Definition)
 fileReading text words = fileAt base true (view text words (keptOf words))
 
 -- 30, 35, then the reading. From start 0 the door never gives 31 (`file-not-31`)
-abbrev pub fileAnswered : List ℕ → List ℕ → ℕ → ℕ → ℕ → ℕ → File
+abbrev pub fileAnswered : List ℕ → List ℕ → ℕ → ℕ → ℕ → ℕ → List ℕ
 fileAnswered text words kept definitions statements arguments =
-    afterDoor NotWellFormed KeptTooShort NotWellFormed (door text words 0 kept) (afterReading (fileReading text words) definitions statements arguments)
+    afterDoor (door text words 0 kept) (afterReading (fileReading text words) definitions statements arguments)
 
--- the promise: the answer r, and the kept list and the three tables afterwards
+-- the promise: the answer r by its numbers, and the kept list and the three tables afterwards
 pub record FileCall (text words kept definitions statements arguments : List ℕ) (r : File) (kept′ definitions′ statements′ arguments′ : List ℕ) : Type 0 where
-  pub answer : r ≡ fileAnswered text words (length kept) (length definitions) (length statements) (length arguments)
-  pub list : kept′ ≡ keptAfter (door text words 0 (length kept)) words kept
-  pub definitionsHold : definitions′ ≡ heldAfter (leaves r) (recordsOf (definitionRecords 0 0) (fileReading text words)) definitions
-  pub statementsHold : statements′ ≡ heldAfter (leaves r) (recordsOf (fileStatements 0 0) (fileReading text words)) statements
-  pub argumentsHold : arguments′ ≡ heldAfter (leaves r) (recordsOf fileArgumentRecords (fileReading text words)) arguments
+  pub answer : values r ≡ fileAnswered text words (length kept) (length definitions) (length statements) (length arguments)
+  pub own : Own r
+  pub list : kept′ ≡ keptAfter (door text words 0 (length kept) .0) words kept
+  pub definitionsHold : definitions′ ≡ heldAfter (numberOf r) (recordsOf (definitionRecords 0 0) (fileReading text words)) definitions
+  pub statementsHold : statements′ ≡ heldAfter (numberOf r) (recordsOf (fileStatements 0 0) (fileReading text words)) statements
+  pub argumentsHold : arguments′ ≡ heldAfter (numberOf r) (recordsOf fileArgumentRecords (fileReading text words)) arguments

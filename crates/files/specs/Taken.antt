@@ -8,11 +8,12 @@ use Rattle.grammar.specs.FileReading.{Definition}
 use Rattle.grammar.specs.FileRecords.{definitionRecords, fileStatements, fileArgumentRecords}
 use Rattle.grammar.specs.Call.{recordsOf, heldAfter}
 use Rattle.files.specs.declared.entry.File.{File}
-use Rattle.files.specs.Call.{leaves, afterReading}
+use Rattle.files.specs.Call.{values, numberOf, Own, afterReading}
 
 -- the answer for what was read, and the three tables afterwards
 pub record FileTaken (read : Answer (List Definition)) (definitions statements arguments : List ℕ) (r : File) (definitions′ statements′ arguments′ : List ℕ) : Type 0 where
-  pub answer : r ≡ afterReading read (length definitions) (length statements) (length arguments)
-  pub definitionsHold : definitions′ ≡ heldAfter (leaves r) (recordsOf (definitionRecords 0 0) read) definitions
-  pub statementsHold : statements′ ≡ heldAfter (leaves r) (recordsOf (fileStatements 0 0) read) statements
-  pub argumentsHold : arguments′ ≡ heldAfter (leaves r) (recordsOf fileArgumentRecords read) arguments
+  pub answer : values r ≡ afterReading read (length definitions) (length statements) (length arguments)
+  pub own : Own r
+  pub definitionsHold : definitions′ ≡ heldAfter (numberOf r) (recordsOf (definitionRecords 0 0) read) definitions
+  pub statementsHold : statements′ ≡ heldAfter (numberOf r) (recordsOf (fileStatements 0 0) read) statements
+  pub argumentsHold : arguments′ ≡ heldAfter (numberOf r) (recordsOf fileArgumentRecords read) arguments

@@ -64,7 +64,7 @@ from start statements arguments (read rd n) = go (ltb (statements / statementWid
     go false eb false ed = wasRead rd n refl (ltb-false _ _ eb) (ltb-false _ _ ed) refl
 
 -- a number below the door's was not given at the door
-open-door : {text words : List ℕ} {start room : ℕ} (v : List ℕ) (said : ℕ × ℕ) → Means text words start room said → getD (afterDoor said v) 0 0 < number.NotWellFormed
+pub open-door : {text words : List ℕ} {start room : ℕ} (v : List ℕ) (said : ℕ × ℕ) → Means text words start room said → getD (afterDoor said v) 0 0 < number.NotWellFormed
     → LetThrough text words start room (length (keptOf words)) × (afterDoor said v ≡ v)
 open-door v said (means-30 f) h = absurd (omega arith)
 open-door v said (means-35 f e) h = absurd (omega arith)

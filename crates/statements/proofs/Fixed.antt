@@ -17,9 +17,9 @@ use Rattle.statements.specs.Answers.{Parsed}
 use Rattle.statements.specs.Call.{values, numberOf, Own, readingAt, BodyCall}
 
 -- no two answers have the same five numbers, where `Refused` keeps to its own
-pub one-body : (r r′ : Body) → Own r → Own r′ → values r ≡ values r′ → r ≡ r′
+pub one-body-answer : (r r′ : Body) → Own r → Own r′ → values r ≡ values r′ → r ≡ r′
 unfolding choose
-one-body r r′ o o′ e = sym (again r o) ∙ ap told e ∙ again r′ o′
+one-body-answer r r′ o o′ e = sym (again r o) ∙ ap told e ∙ again r′ o′
   where
     -- the answer of five numbers
     told : List ℕ → Body
@@ -57,7 +57,7 @@ pub one-call : {text words kept st ar : List ℕ} {start : ℕ} {r r′ : Body} 
     → BodyCall text words start kept st ar r′ k′ s′ a′
     → (r ≡ r′) × (k ≡ k′) × (s ≡ s′) × (a ≡ a′)
 one-call {text} {words} {st = st} {ar = ar} {start = start} {r = r} {r′ = r′} m n =
-    let same = one-body r r′ (m .own) (n .own) (m .answer ∙ sym (n .answer)) in (
+    let same = one-body-answer r r′ (m .own) (n .own) (m .answer ∙ sym (n .answer)) in (
       same,
       m .list ∙ sym (n .list),
       m .statementsHold ∙ ap (λ (x : Body). heldAfter (numberOf x) (recordsOf (statementRecords 0 0) (readingAt text words start)) st) same ∙ sym (n .statementsHold),

@@ -5,6 +5,7 @@ use borrow.Author.Needs.{needs}
 use Rattle.tokens.specs.Token.{view}
 use Rattle.grammar.specs.FileReader.{parse, fileAt}
 use Rattle.grammar.specs.Rules.{base}
+use Rattle.grammar.proofs.Numbers.{file-ours}
 use Rattle.files.proofs.EntryLaws.{taken-32, taken-33, taken-34, taken-refused, taken-read}
 use Rattle.files.proofs.entry.read_kept.Statement.{statement}
 use Rattle.files.proofs.entry.read_kept.Tie as tie
@@ -116,6 +117,7 @@ returns-4 c =
     (f .last .1 .1 .1 .0) (f .last .1 .1 .1 .1 .0) (f .last .1 .1 .1 .1 .1 .0) (f .kept .1 .1 .1 .0) (f .kept .1 .1 .1 .1 .0) (f .kept .1 .1 .1 .1 .1 .0)
     (z .last .0) (z .last .1 .0) (z .last .1 .1 .0) (z .ensures)
     (parse base true [] 0 (view (a .text .now) (a .tokens .now) (a .kept .now))) (q .0 .0) (q .0 .1 .0) (f .result) (f .ensures) (q .1)
+    (file-ours base true (view (a .text .now) (a .tokens .now) (a .kept .now)) (q .0 .0) (q .0 .1 .0))
 
 same-length-13 : tie.Need-same-length-13
 same-length-13 c = search needs
