@@ -74,7 +74,7 @@ fn signed(number: u32, first: usize, name: usize, i: usize, a: usize, r: Behind)
 }
 
 // The Rust's `parse_imports`: Include and a Str, which is the name.
-pub fn parse_imports(tokens: &[u32], kept: &[u32], p: usize, i: usize, a: usize) -> DefRead
+fn parse_imports(tokens: &[u32], kept: &[u32], p: usize, i: usize, a: usize) -> DefRead
     requires { ⌜ Reading (now tokens) (now kept) p p i a ⌝ }
     ensures { λ r. ⌜ ((text st ar : List ℕ) → DefParsed 8 (view text (now (tokens .entry)) (now (kept .entry))) p i a (length (now (kept .entry)))
         (parseImports p (tokensFrom text (now (tokens .entry)) (now (kept .entry)) p)) st ar r st ar) ⌝ }
@@ -98,7 +98,7 @@ pub fn parse_imports(tokens: &[u32], kept: &[u32], p: usize, i: usize, a: usize)
 }
 
 // The Rust's `parse_function`, from the token Function on.
-pub fn parse_function(
+fn parse_function(
     text: &[u8],
     tokens: &[u32],
     kept: &[u32],
@@ -143,7 +143,7 @@ fn listed_number(listed: Listed) -> u32
 }
 
 // A definition that is a list behind its name: the Rust's `parse_event` and `parse_custom_error`, from the token Event or Error on.
-pub fn parse_listed(
+fn parse_listed(
     text: &[u8],
     tokens: &[u32],
     kept: &[u32],
@@ -216,7 +216,7 @@ fn define(
 }
 
 // A definition at top level, where Pound is refused with a number of its own.
-pub fn top_level(
+fn top_level(
     text: &[u8],
     tokens: &[u32],
     kept: &[u32],

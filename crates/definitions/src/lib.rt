@@ -1,11 +1,11 @@
 // The definition layer: one definition of a file.
-pub mod constant;
-pub mod definition;
-pub mod head;
-pub mod macros;
-pub mod record;
-pub mod signature;
-pub mod table;
+mod constant;
+mod definition;
+mod head;
+mod macros;
+mod record;
+mod signature;
+mod table;
 
 pub use definition::read_definition;
 pub use record::DefRead;

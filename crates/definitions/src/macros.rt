@@ -4,14 +4,14 @@
 // lent tables.
 use crate::record::DefRead;
 use crate::record::Definition;
-use lists::argument::Sort;
-use lists::list::ArgList;
-use lists::list::parse_args;
-use lists::single::Single;
-use lists::single::parse_single_arg;
-use statements::body::parse_body;
-use statements::item::Items;
-use statements::item::Progress;
+use lists::ArgList;
+use lists::Single;
+use lists::Sort;
+use lists::parse_args;
+use lists::parse_single_arg;
+use statements::Items;
+use statements::Progress;
+use statements::parse_body;
 use tokens::kind;
 use tokens::kind_at;
 use tokens::number;

@@ -1,7 +1,7 @@
 // What stands behind the name of a function, an event or an error.
-use lists::argument::Sort;
-use lists::list::ArgList;
-use lists::list::parse_args;
+use lists::ArgList;
+use lists::Sort;
+use lists::parse_args;
 use tokens::kind;
 use tokens::kind_at;
 use tokens::number;

@@ -3,8 +3,8 @@
 // Each entry is a statement record. i and a are the numbers of statement and argument records before the lent tables.
 use crate::record::DefRead;
 use crate::record::Definition;
-use statements::item::Statement;
-use statements::item::put_statement;
+use statements::Statement;
+use statements::put_statement;
 use tokens::all_hex;
 use tokens::kind;
 use tokens::kind_at;
@@ -173,7 +173,7 @@ fn parse_entries(
 }
 
 // `{`, entries, `}`.
-pub fn parse_table_body(
+fn parse_table_body(
     text: &[u8],
     tokens: &[u32],
     kept: &[u32],

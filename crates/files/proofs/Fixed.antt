@@ -25,13 +25,13 @@ one-file-answer r r′ o o′ e = sym (again r o) ∙ ap told e ∙ again r′ o
     told : List ℕ → File
     told v =
         choose (
-          (0, Read (getD v 1 0) (getD v 2 0) (getD v 3 0) (getD v 4 0))
-          ∷ (number.NotWellFormed, NotWellFormed (getD v 1 0))
-          ∷ (number.KeptTooShort, KeptTooShort (getD v 1 0))
-          ∷ (number.DefinitionsTooSmall, DefinitionsTooSmall (getD v 1 0))
-          ∷ (number.StatementsTooSmall, StatementsTooSmall (getD v 1 0))
-          ∷ (number.ArgumentsTooSmall, ArgumentsTooSmall (getD v 1 0))
-          ∷ [])
+        (0, Read (getD v 1 0) (getD v 2 0) (getD v 3 0) (getD v 4 0))
+        ∷ (number.NotWellFormed, NotWellFormed (getD v 1 0))
+        ∷ (number.KeptTooShort, KeptTooShort (getD v 1 0))
+        ∷ (number.DefinitionsTooSmall, DefinitionsTooSmall (getD v 1 0))
+        ∷ (number.StatementsTooSmall, StatementsTooSmall (getD v 1 0))
+        ∷ (number.ArgumentsTooSmall, ArgumentsTooSmall (getD v 1 0))
+        ∷ [])
         (Refused (getD v 0 0) (getD v 1 0)) (getD v 0 0)
 
     again : (r : File) → Own r → told (values r) ≡ r

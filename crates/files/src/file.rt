@@ -1,7 +1,7 @@
 // The file: definitions up to Eof.
-use definitions::definition::read_definition;
-use definitions::record::DefRead;
-use definitions::record::is_named;
+use definitions::DefRead;
+use definitions::is_named;
+use definitions::read_definition;
 use names::check_duplicate;
 use tokens::kind;
 use tokens::kind_at;
@@ -78,7 +78,7 @@ fn next_definition(
 }
 
 // Definitions up to Eof. marks, places and hashes are room for the names of macros, fns and tests.
-pub fn parse(
+fn parse(
     text: &[u8],
     tokens: &[u32],
     kept: &[u32],

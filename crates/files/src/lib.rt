@@ -1,5 +1,5 @@
 // Files: definitions up to Eof, the test for repeated names, and the entry that reads a whole file.
-pub mod entry;
+mod entry;
 mod file;
 
 pub use entry::File;

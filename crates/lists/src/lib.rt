@@ -1,7 +1,7 @@
 // Lists of arguments, and a number in parentheses: what the statement and the definition layer read alike.
-pub mod argument;
-pub mod list;
-pub mod single;
+mod argument;
+mod list;
+mod single;
 
 pub use argument::Sort;
 pub use list::ArgList;

@@ -47,7 +47,7 @@ fn names_after(names: usize, form: u32) -> usize
 }
 
 // A list's arguments and its `)`, from the place behind its `(`. The records go into the table from number n on.
-pub fn parse_list(
+fn parse_list(
     text: &[u8],
     tokens: &[u32],
     kept: &[u32],

@@ -1,6 +1,6 @@
 // The library for programs in other languages: both entries under C's calling convention. Numbers pass as themselves, a slice as its pointer and its length in
 // elements, the answer's array as its pointer. `bindings/c/simmerotter.h` and `bindings/rust` declare the same two functions.
-pub mod values;
+mod values;
 
 use values::body_values;
 use values::file_values;

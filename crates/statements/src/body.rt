@@ -20,7 +20,7 @@ ghost use Rattle.statements.specs.Item.{Small};
 ghost use Rattle.statements.specs.Label.{skipped, labelWords, labelOpened};
 
 // Items up to the next Label or CloseBrace.
-pub fn parse_items(
+fn parse_items(
     text: &[u8],
     tokens: &[u32],
     kept: &[u32],

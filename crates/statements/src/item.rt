@@ -1,7 +1,7 @@
 // Statements, one item at a time: a reader that writes nothing, the writers of its records, and `parse_item` over both.
-use lists::argument::Sort;
-use lists::list::ArgList;
-use lists::list::parse_args;
+use lists::ArgList;
+use lists::Sort;
+use lists::parse_args;
 use tokens::extra_at;
 use tokens::is_value_push;
 use tokens::kind;
@@ -89,7 +89,7 @@ fn enclosed(tokens: &[u32], kept: &[u32], p: usize, wrong: u32, close: u32, ty: 
 }
 
 // `[` Ident `]`, from its bracket.
-pub fn parse_constant_push(tokens: &[u32], kept: &[u32], p: usize) -> Item
+fn parse_constant_push(tokens: &[u32], kept: &[u32], p: usize) -> Item
     requires { ⌜ Place (now tokens) (now kept) p ⌝ }
     ensures { λ r. ⌜ r ≡ enclosedItem InvalidConstant CloseBracket (typeOf aConstant) p (kindAt (now (tokens .entry)) (now (kept .entry)) (p + 1)) (kindAt (now (tokens .entry)) (now (kept .entry)) (p + 2)) ⌝ }
 {
@@ -104,7 +104,7 @@ pub fn parse_constant_push(tokens: &[u32], kept: &[u32], p: usize) -> Item
 }
 
 // `<` Ident `>`, from its angle.
-pub fn parse_arg_call(tokens: &[u32], kept: &[u32], p: usize) -> Item
+fn parse_arg_call(tokens: &[u32], kept: &[u32], p: usize) -> Item
     requires { ⌜ Place (now tokens) (now kept) p ⌝ }
     ensures { λ r. ⌜ r ≡ enclosedItem InvalidArgCallIdent RightAngle (typeOf anArgumentCall) p (kindAt (now (tokens .entry)) (now (kept .entry)) (p + 1)) (kindAt (now (tokens .entry)) (now (kept .entry)) (p + 2)) ⌝ }
 {

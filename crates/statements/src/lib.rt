@@ -1,8 +1,13 @@
 // The statement layer: the body of a macro, and the entry that reads one body.
-pub mod body;
-pub mod entry;
-pub mod item;
+mod body;
+mod entry;
+mod item;
 mod length;
 
+pub use body::parse_body;
 pub use entry::Body;
 pub use entry::read_body;
+pub use item::Items;
+pub use item::Progress;
+pub use item::Statement;
+pub use item::put_statement;

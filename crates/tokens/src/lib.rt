@@ -1,13 +1,13 @@
 // The token layer: what is lent is tested at the door, tokens are read by their place, records are written where they fit.
 // The accessors by place ask that the kept list is one that the door wrote; nothing else here asks anything of its caller.
-pub mod door;
+mod door;
 pub mod kind;
-pub mod lent;
-pub mod literal;
-pub mod name;
+mod lent;
+mod literal;
+mod name;
 pub mod number;
-pub mod push;
-pub mod token;
+mod push;
+mod token;
 
 pub use door::Door;
 pub use door::prepare;
@@ -16,18 +16,12 @@ pub use lent::clear_behind;
 pub use lent::put_record;
 pub use lent::start_of;
 pub use literal::all_hex;
-pub use literal::is_hex;
-pub use literal::is_literal;
 pub use literal::significant_bytes;
 pub use name::is_reserved;
 pub use name::same_name;
 pub use push::is_value_push;
 pub use push::push_overflows;
 pub use push::push_size;
-pub use token::end_at;
 pub use token::extra_at;
 pub use token::kind_at;
-pub use token::part_of;
-pub use token::start_at;
 pub use token::text_at;
-pub use token::word_at;

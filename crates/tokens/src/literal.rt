@@ -6,7 +6,7 @@ ghost use Rattle.tokens.specs.Byte.{isHex, digit, allHex, valueAfter};
 ghost use Rattle.tokens.specs.Literal.{isLiteral, literalValue, significant};
 
 // A hex digit of either case. No branch: which range a byte lies in can't be foreseen.
-pub fn is_hex(c: u8) -> bool
+fn is_hex(c: u8) -> bool
     ensures { λ r. ⌜ r ≡ isHex c ⌝ }
 {
     ((48 <= c) & (c <= 57)) | ((97 <= c) & (c <= 102)) | ((65 <= c) & (c <= 70))

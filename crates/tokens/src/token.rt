@@ -3,16 +3,8 @@
 use crate::number;
 ghost use mathlib.Core.Path.{_≡_};
 ghost use Prim.Native.Nat.{_≤_, min};
-ghost use lib.ListN.{getD};
 ghost use Rattle.tokens.specs.Token.{part};
 ghost use Rattle.tokens.specs.Place.{fieldAt, startAt, endAt, extraAt, textAt, KindAt, Numbered};
-
-// The word at an index, past the end 0.
-pub fn word_at(words: &[u32], i: usize) -> u32
-    ensures { λ r. ⌜ r ≡ getD (now (words .entry)) i 0 ⌝ }
-{
-    if i < words.len() { words[i] } else { 0 }
-}
 
 // Word j of the token at place p: kind, start, end, extra.
 fn field_at(tokens: &[u32], kept: &[u32], p: usize, j: usize) -> u32
@@ -37,7 +29,7 @@ pub fn kind_at(tokens: &[u32], kept: &[u32], p: usize) -> u32
 }
 
 // Where the text of the token at place p starts.
-pub fn start_at(tokens: &[u32], kept: &[u32], p: usize) -> u32
+fn start_at(tokens: &[u32], kept: &[u32], p: usize) -> u32
     requires { ⌜ Numbered (now tokens) (now kept) ⌝ }
     ensures { λ r. ⌜ r ≡ startAt (now (tokens .entry)) (now (kept .entry)) p ⌝ }
 {
@@ -45,7 +37,7 @@ pub fn start_at(tokens: &[u32], kept: &[u32], p: usize) -> u32
 }
 
 // Where it ends.
-pub fn end_at(tokens: &[u32], kept: &[u32], p: usize) -> u32
+fn end_at(tokens: &[u32], kept: &[u32], p: usize) -> u32
     requires { ⌜ Numbered (now tokens) (now kept) ⌝ }
     ensures { λ r. ⌜ r ≡ endAt (now (tokens .entry)) (now (kept .entry)) p ⌝ }
 {
