@@ -23,12 +23,12 @@ use Rattle.grammar.specs.FileReading.{Definition}
 use Rattle.grammar.specs.FileReader.{fileAt}
 use Rattle.grammar.specs.FileRecords.{definitionRecords, fileStatements, fileArguments, fileArgumentRecords, fileStatementCount}
 use Rattle.grammar.specs.FileFollows.{FollowsFile, RepeatedAt, FirstWrongFile, CursorAt}
-use Rattle.grammar.specs.Call.{refusal, fileNumbers, recordsOf, filled, heldAfter}
+use Rattle.grammar.specs.Call.{ReadingNumber, refusal, fileNumbers, recordsOf, filled, heldAfter}
 use Rattle.grammar.specs.Tables.{Stands}
 use Rattle.grammar.specs.FileTables.{FileTable, StatementsOf}
 use Rattle.grammar.specs.FileCases.{FileOutcome, FileRow, fileOutcome, ended, fileRows}
 use Rattle.grammar.proofs.Lists.{all-map, all-mapped}
-use Rattle.grammar.proofs.Numbers.{Ours, file-ours, held-refused}
+use Rattle.grammar.proofs.Numbers.{file-ours, held-refused}
 use Rattle.grammar.proofs.FileDemand.{file-exactly, file-cursor, file-repeated, file-same-refusal}
 use Rattle.grammar.proofs.FileRecorded.{file-as-many, file-as-wide}
 use Rattle.grammar.proofs.Tabled.{stored-filled}
@@ -123,7 +123,7 @@ module _ {text words kept definitions statements arguments : List ℕ} {r : File
     pub through : LetThrough text words 0 (length kept) (length (keptOf words))
     pub reads : fileReading text words ≡ refused c q
 
-  pub refused-there : (c q : ℕ) → values r ≡ refusal c q → Ours c → RefusedThere c q
+  pub refused-there : (c q : ℕ) → values r ≡ refusal c q → ReadingNumber c → RefusedThere c q
   refused-there c q is ours =
       let e = entered (rw is (ours .1)) in
       record { through = e .0; reads = go (afterReading (fileReading text words) (length definitions) (length statements) (length arguments)) (sym is ∙ e .1) (from definitions statements arguments (fileReading text words)) }
@@ -163,7 +163,7 @@ module _ {text words kept definitions statements arguments : List ℕ} {r : File
   -- ---- the cursor
 
   -- refused with a number of the reading but 20: there is a first token that the rules don't allow, and the cursor is it or one past it
-  pub file-call-cursor : (c q : ℕ) → values r ≡ refusal c q → Ours c → eqb c number.DuplicateMacro ≡ false → (w : ℕ) × FirstWrongFile base tokens w × CursorAt base tokens c q w
+  pub file-call-cursor : (c q : ℕ) → values r ≡ refusal c q → ReadingNumber c → eqb c number.DuplicateMacro ≡ false → (w : ℕ) × FirstWrongFile base tokens w × CursorAt base tokens c q w
   file-call-cursor c q is ours other = file-cursor base true tokens c q (refused-there c q is ours .reads) other
 
   -- refused with 20: the cursor is the name of a whole macro, fn or test named like one before it
@@ -176,7 +176,7 @@ module _ {text words kept definitions statements arguments : List ℕ} {r : File
     {text₂ words₂ kept₂ definitions₂ statements₂ arguments₂ : List ℕ} {r₂ : File} {kept₂′ definitions₂′ statements₂′ arguments₂′ : List ℕ} where
   pub file-call-same-refusal : (c q : ℕ)
       → FileCall text words kept definitions statements arguments r kept′ definitions′ statements′ arguments′
-      → values r ≡ refusal c q → Ours c → eqb c number.DuplicateMacro ≡ false
+      → values r ≡ refusal c q → ReadingNumber c → eqb c number.DuplicateMacro ≡ false
       → WellFormed text₂ words₂ → length (keptOf words₂) ≤ length kept₂
       → take (suc q) (keptTokens text words) ≡ take (suc q) (keptTokens text₂ words₂)
       → FileCall text₂ words₂ kept₂ definitions₂ statements₂ arguments₂ r₂ kept₂′ definitions₂′ statements₂′ arguments₂′

@@ -22,8 +22,8 @@ use Rattle.grammar.specs.Rules.{base}
 use Rattle.grammar.specs.FileReading.{Definition}
 use Rattle.grammar.specs.FileReader.{fileAt}
 use Rattle.grammar.specs.FileRecords.{definitionRecords, fileStatements, fileArguments, fileArgumentRecords, fileStatementCount}
-use Rattle.grammar.specs.Call.{filled, heldAfter}
-use Rattle.grammar.proofs.Numbers.{Ours, held-refused}
+use Rattle.grammar.specs.Call.{ReadingNumber, filled, heldAfter}
+use Rattle.grammar.proofs.Numbers.{held-refused}
 use Rattle.files.specs.declared.file.FileRead.{FileRead}
 use Rattle.files.specs.declared.file.FileRead.the-variants as files
 use Rattle.files.specs.declared.entry.File.{File}
@@ -50,7 +50,7 @@ module _ (de st ar de₁ st₁ ar₁ : List ℕ) (de-same : length de₁ ≡ len
   module _ (zeroed : Zeroed de₁ de₂ × Zeroed st₁ st₂ × Zeroed ar₁ ar₂) where
     -- 1 to 21
     pub taken-refused : (read : Res (List Definition)) (c q : ℕ) (r : FileRead) → FileParsed read de st ar r de₁ st₁ ar₁ → r ≡ files.Refused c q
-        → (answer read ≡ refused c q → Ours c)
+        → (answer read ≡ refused c q → ReadingNumber c)
         → FileTaken (answer read) de st ar (answers.Refused c q) de₂ st₂ ar₂
     unfolding afterReading
     taken-refused (got ds k) c q r h g small = absurd (let z : _≡_ {A = ℕ} 0 1 = cc (h .is) in omega arith)

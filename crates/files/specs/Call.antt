@@ -1,5 +1,5 @@
 -- The promise of `read_file`: document 01's answer, and what every lent thing holds afterwards.
-use Prim.Native.Nat.{ℕ, _/_, _<_}
+use Prim.Native.Nat.{ℕ, _/_}
 use mathlib.Core.Path.{_≡_}
 use mathlib.Core.Bool.{true, cond}
 use mathlib.Core.List.{List, [], _∷_}
@@ -7,15 +7,14 @@ use lib.ListN.{length, getD}
 use lib.Dec.{ltb}
 use Rattle.tokens.specs.Number as number
 use Rattle.tokens.specs.Number.{definitionWidth, statementWidth, argumentWidth}
-use Rattle.tokens.specs.Token.{view}
-use Rattle.tokens.specs.Kept.{keptOf}
+use Rattle.tokens.specs.Kept.{keptTokens}
 use Rattle.tokens.specs.Door.{door, keptAfter}
 use Rattle.grammar.specs.Result.{Answer, read, refused}
 use Rattle.grammar.specs.Rules.{base}
 use Rattle.grammar.specs.FileReading.{Definition}
 use Rattle.grammar.specs.FileReader.{fileAt}
 use Rattle.grammar.specs.FileRecords.{definitionRecords, fileStatements, fileArguments, fileArgumentRecords, fileStatementCount}
-use Rattle.grammar.specs.Call.{refusal, fileNumbers, afterDoor, recordsOf, heldAfter}
+use Rattle.grammar.specs.Call.{ReadingNumber, refusal, fileNumbers, afterDoor, recordsOf, heldAfter}
 use Rattle.files.specs.declared.entry.File.{File}
 use Rattle.files.specs.declared.entry.File.the-variants.{NotWellFormed, KeptTooShort, Refused, DefinitionsTooSmall, StatementsTooSmall, ArgumentsTooSmall, Read}
 
@@ -33,17 +32,17 @@ values (Read cursor definitions statements arguments) = 0 ∷ cursor ∷ definit
 abbrev pub numberOf : File → ℕ
 numberOf r = getD (values r) 0 0
 
--- `Refused` is for the reading's own numbers, which lie below the others: so the five numbers tell the answer
+-- `Refused` is for the reading's own numbers, and no other answer has one of these: so the five numbers tell the answer
 abbrev pub Own : File → Type 0
 Own (NotWellFormed at) = Unit {0}
 Own (KeptTooShort count) = Unit {0}
-Own (Refused c q) = (0 < c) × (c < number.NotWellFormed)
+Own (Refused c q) = ReadingNumber c
 Own (DefinitionsTooSmall need) = Unit {0}
 Own (StatementsTooSmall need) = Unit {0}
 Own (ArgumentsTooSmall need) = Unit {0}
 Own (Read cursor definitions statements arguments) = Unit {0}
 
--- the first of 1 to 21 in reading order; for an accepted file 32, 33 and 34, if a table's whole records are fewer than needed
+-- the first of 1 to 21 in reading order; for an accepted file 32, else 33, else 34, if a table's whole records are fewer than needed
 unfoldable pub afterReading : Answer (List Definition) → ℕ → ℕ → ℕ → List ℕ
 afterReading (refused c q) definitions statements arguments = fileNumbers (refused c q)
 afterReading (read ds n) definitions statements arguments =
@@ -52,9 +51,9 @@ afterReading (read ds n) definitions statements arguments =
     (cond (ltb (arguments / argumentWidth) (length (fileArguments ds))) (refusal number.ArgumentsTooSmall (length (fileArguments ds)))
     (fileNumbers (read ds n))))
 
--- the reading of the view, with the rule on names
+-- what the reader answers for the kept tokens, with the rule on names
 abbrev pub fileReading : List ℕ → List ℕ → Answer (List Definition)
-fileReading text words = fileAt base true (view text words (keptOf words))
+fileReading text words = fileAt base true (keptTokens text words)
 
 -- 30, 35, then the reading. From start 0 the door never gives 31 (`file-not-31`)
 abbrev pub fileAnswered : List ℕ → List ℕ → ℕ → ℕ → ℕ → ℕ → List ℕ

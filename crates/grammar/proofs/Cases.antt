@@ -1,4 +1,5 @@
 -- Theorem 6: the rows of document 01's table marked P, from the rules, under one statement.
+use Prim.Native.Nat.{ℕ}
 use mathlib.Core.Path.{_≡_, refl}
 use mathlib.Core.List.{List, map, flatten}
 use Rattle.tokens.specs.Byte.{bytes, same, digit, valueAfter}
@@ -11,19 +12,19 @@ use Rattle.grammar.specs.Records.{argumentsOf, groupArguments, allArgume
 use Rattle.grammar.specs.PlainLength.{mainBytes, innerBytes, groupBytes, allMeasured, groupsMeasured, plainLength}
 use Rattle.grammar.specs.Result.{look, choose, seq, many}
 use Rattle.grammar.specs.Reader.{separated, entries, closedList, callArgument, nameStep, untypedStep, builtinArgument, operandStep, identStep, item, items, groupRest, labelGroup, groups, bodyFrom, bodyAt}
-use Rattle.grammar.specs.Cases.{Row, Outcome, rows, others, braced, outcome}
+use Rattle.grammar.specs.Cases.{Row, Outcome, rows, others, braced, tokensOf, outcome}
 
--- what the reader answers for each row, at place 0 and with the base's rules; the line says what must compute for that
-unfoldable pub outcomes : List Row → List Outcome
-unfolding bytes same digit valueAfter literalValue bytesFrom significant isValuePush pushSize fits decimal multiples sized reservedNames oneOf reserved flatten allowed argumentsOf groupArguments allArguments simpleRecords groupRecords statementRecords argumentRecords groupCount statementCount argumentCount mainBytes innerBytes groupBytes allMeasured groupsMeasured plainLength look choose seq many separated entries closedList callArgument nameStep untypedStep builtinArgument operandStep identStep item items groupRest labelGroup groups bodyFrom bodyAt
-outcomes list = map (λ row. outcome 0 (bodyAt base (braced (row .input)) 0)) list
+-- what the reader answers for each row, at place 0 and with the base's rules, whatever the texts that no rule looks at; the line says what must compute for that
+unfoldable pub outcomes : (ℕ → List ℕ) → List Row → List Outcome
+unfolding bytes same digit valueAfter literalValue bytesFrom significant isValuePush pushSize fits decimal multiples sized reservedNames oneOf reserved flatten allowed argumentsOf groupArguments allArguments simpleRecords groupRecords statementRecords argumentRecords groupCount statementCount argumentCount mainBytes innerBytes groupBytes allMeasured groupsMeasured plainLength look choose seq many separated entries closedList callArgument nameStep untypedStep builtinArgument operandStep identStep item items groupRest labelGroup groups bodyFrom bodyAt tokensOf
+outcomes texts list = map (λ row. outcome 0 (bodyAt base (tokensOf texts 0 (braced (row .input))) 0)) list
 
 -- Theorem 6. The rows marked P
-pub rows-hold : outcomes rows ≡ map (λ row. row .outcome) rows
+pub rows-hold : (texts : ℕ → List ℕ) → outcomes texts rows ≡ map (λ row. row .outcome) rows
 unfolding outcomes
-rows-hold = refl
+rows-hold texts = refl
 
 -- further bodies, in the same way
-pub others-hold : outcomes others ≡ map (λ row. row .outcome) others
+pub others-hold : (texts : ℕ → List ℕ) → outcomes texts others ≡ map (λ row. row .outcome) others
 unfolding outcomes
-others-hold = refl
+others-hold texts = refl

@@ -1,4 +1,5 @@
 -- The rows of files, from the rules, under one statement.
+use Prim.Native.Nat.{ℕ}
 use mathlib.Core.Path.{_≡_, refl}
 use mathlib.Core.Bool.{true}
 use mathlib.Core.List.{List, map, flatten}
@@ -14,14 +15,15 @@ use Rattle.grammar.specs.FileReading.{digitTotal, sizeOf}
 use Rattle.grammar.specs.FileGrammar.{entryAllowed, repeats}
 use Rattle.grammar.specs.FileRecords.{formArguments, entryRecords, formCount, formStatements, definitionRecord, definitionRecords, fileStatements, fileArguments, fileArgumentRecords, fileStatementCount}
 use Rattle.grammar.specs.FileReader.{byKind, optional, named, parseImports, functionType, functionRest, parseFunction, eventRest, parseEvent, constantValue, constantRest, parseConstant, errorRest, parseCustomError, macroRest, parseMacro, tableEntry, tableEntries, parseTableBody, tableRest, parseTable, parseDefinition, topLevel, checked, definition, parse, fileAt}
+use Rattle.grammar.specs.Cases.{tokensOf}
 use Rattle.grammar.specs.FileCases.{FileRow, FileOutcome, fileRows, ended, fileOutcome}
 
--- what the reader answers for each row, with the base's rules and the rule on names; the line says what must compute for that
-unfoldable pub fileOutcomes : List FileRow → List FileOutcome
-unfolding bytes same isHex allHex decimal multiples sized reservedNames oneOf reserved flatten allowed argumentsOf groupArguments allArguments simpleRecords groupRecords statementRecords groupCount statementCount look choose seq many separated entries closedList callArgument nameStep untypedStep nameArgument identStep item items groupRest labelGroup groups bodyFrom indexedHere locationHere typedName typedArgument singleNumber digitTotal sizeOf entryAllowed repeats formArguments entryRecords formCount formStatements definitionRecord definitionRecords fileStatements fileArguments fileArgumentRecords fileStatementCount byKind optional named parseImports functionType functionRest parseFunction eventRest parseEvent constantValue constantRest parseConstant errorRest parseCustomError macroRest parseMacro tableEntry tableEntries parseTableBody tableRest parseTable parseDefinition topLevel checked definition parse fileAt
-fileOutcomes list = map (λ row. fileOutcome (fileAt base true (ended (row .input)))) list
+-- what the reader answers for each row, with the base's rules and the rule on names, whatever the texts that no rule looks at; the line says what must compute for that
+unfoldable pub fileOutcomes : (ℕ → List ℕ) → List FileRow → List FileOutcome
+unfolding bytes same isHex allHex decimal multiples sized reservedNames oneOf reserved flatten allowed argumentsOf groupArguments allArguments simpleRecords groupRecords statementRecords groupCount statementCount look choose seq many separated entries closedList callArgument nameStep untypedStep nameArgument identStep item items groupRest labelGroup groups bodyFrom indexedHere locationHere typedName typedArgument singleNumber digitTotal sizeOf entryAllowed repeats formArguments entryRecords formCount formStatements definitionRecord definitionRecords fileStatements fileArguments fileArgumentRecords fileStatementCount byKind optional named parseImports functionType functionRest parseFunction eventRest parseEvent constantValue constantRest parseConstant errorRest parseCustomError macroRest parseMacro tableEntry tableEntries parseTableBody tableRest parseTable parseDefinition topLevel checked definition parse fileAt tokensOf
+fileOutcomes texts list = map (λ row. fileOutcome (fileAt base true (tokensOf texts 0 (ended (row .input))))) list
 
 -- document 01's rows of files, one of each definition, and refusals of every kind
-pub file-rows-hold : fileOutcomes fileRows ≡ map (λ row. row .outcome) fileRows
+pub file-rows-hold : (texts : ℕ → List ℕ) → fileOutcomes texts fileRows ≡ map (λ row. row .outcome) fileRows
 unfolding fileOutcomes
-file-rows-hold = refl
+file-rows-hold texts = refl

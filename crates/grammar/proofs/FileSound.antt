@@ -23,7 +23,7 @@ use Rattle.grammar.specs.FileReading.{literalAt, pointerAt, MacroSort, t
 use Rattle.grammar.specs.FileGrammar.{Optional, absent, present, Lone, lone, TypedList, typedList, Parens, parens, Counted, counting, FunctionType, isView, isPure, isPayable, isNonPayable, ConstantValue, valueLiteral, valuePointer, MacroKind, isMacroKind, isFnKind, isTestKind, TableKind, isJump, isPacked, isCode, entryAllowed, OneEntry, oneEntry, forgetEntry, TableBody, tableBody, Sign, Rest, ofFunction, ofEvent, ofConstant, ofError, ofMacro, ofTable, Defined, include, define}
 use Rattle.grammar.specs.FileReader.{byKind, optional, parseArgs, named, parseImports, functionType, functionRest, parseFunction, eventRest, parseEvent, constantValue, constantRest, parseConstant, errorRest, parseCustomError, macroRest, parseMacro, tableEntry, endsTable, tableEntries, parseTableBody, sign, tableRest, parseTable, kindTable, parseDefinition, topTable, topLevel}
 use Rattle.grammar.specs.FileFollows.{hasTyped, pastIn, isDefinitionNumber}
-use Rattle.grammar.specs.Cases.{mark, word}
+use Rattle.grammar.proofs.Lists.{mark, word}
 use Rattle.grammar.proofs.Holds.{Holds, ill, StepHolds, refusing, going, Finish, got-holds, cond-says, choose-says, look-holds, holds-map, seq-holds, NoneOrOne, nothing, one, many-holds}
 use Rattle.grammar.proofs.Sound.{Any, expect-holds, closed-holds, name-holds, name-some, body-holds}
 use Rattle.grammar.proofs.FileHolds.{Near, Inner, inner-told, plain-inner, by-kind-holds, optional-holds, expect-run}

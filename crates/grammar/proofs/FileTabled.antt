@@ -10,7 +10,7 @@ use mathlib.Core.Bool.{Bool, true, false}
 use mathlib.Core.List.{List, [], _∷_, _++_, map}
 use lib.ListN.{length, take, drop, length-append, length-drop, take-append-drop}
 use lib.Seq.{take-at, length-take-le}
-use Rattle.tokens.specs.Number.{definitionWidth, statementWidth, argumentWidth, labelType, macroDefinition, testDefinition, jumpTableDefinition, codeTableDefinition, errorDefinition}
+use Rattle.tokens.specs.Number.{definitionWidth, statementWidth, argumentWidth, labelType, importDefinition, macroDefinition, testDefinition, jumpTableDefinition, codeTableDefinition, errorDefinition}
 use Rattle.tokens.specs.Token.{Token, tokenAt}
 use Rattle.tokens.specs.Kind.{Takes, Returns, Assign, OpenParen, CloseParen}
 use Rattle.grammar.specs.Reading.{Argument, Entry, Reading, NONE, arguments}
@@ -22,12 +22,12 @@ use Rattle.grammar.specs.FileReading.{Value, MacroSort, TableSort, Table
 use Rattle.grammar.specs.FileGrammar.{Optional, absent, present, Lone, lone, IsIndexed, IsName, TypedArgument, typed, TypedEntry, typedEntry, TypedList, typedList, Parens, parens, Counted, counting, FunctionType, ConstantValue, valueLiteral, valuePointer, MacroKind, isMacroKind, isFnKind, isTestKind, TableKind, isJump, isPacked, isCode, OneEntry, oneEntry, forgetEntry, tableBody, Sign, Rest, ofFunction, ofEvent, ofConstant, ofError, ofMacro, ofTable, Defined, include, define, rememberName, Fresh, fresh}
 use Rattle.grammar.specs.FileRecords.{macroNumber, tableNumber, entryType, entryRecords, formArguments, formCount, formStatements, valueWords, behindDeclared, definitionRecord, definitionRecords, fileStatements, fileArguments, fileArgumentRecords, fileStatementCount}
 use Rattle.grammar.specs.FileFollows.{FollowsFile}
-use Rattle.grammar.specs.Tables.{recordOf, NameWords, Flat, Walk}
-use Rattle.grammar.specs.FileTables.{Perhaps, nothingThere, oneThere, TypedWords, typedWords, ParenTable, parenTable, CountAt, noCount, count, SignAt, noSign, sign, ValueAt, literalValue, pointerValue, MacroAt, macroAt, fnAt, testAt, EntryTable, noEntries, entry, TableAt, jumpTableAt, packedTableAt, codeTableAt, Head, Words, DefinitionAt, importAt, functionAt, eventAt, constantDefinedAt, errorAt, macroDefinedAt, tableDefinedAt, definitionWords, FileTable, noDefinitions, defined, Braced, StatementsOf}
+use Rattle.grammar.specs.Tables.{recordOf, NameWords, ParenTable, parenTable, Flat, Walk}
+use Rattle.grammar.specs.FileTables.{Perhaps, nothingThere, oneThere, TypedWords, typedWords, CountAt, noCount, count, SignAt, noSign, sign, ValueAt, literalValue, pointerValue, MacroAt, macroAt, fnAt, testAt, EntryTable, noEntries, entry, TableAt, jumpTableAt, packedTableAt, codeTableAt, Head, Words, DefinitionAt, importAt, functionAt, eventAt, constantDefinedAt, errorAt, macroDefinedAt, tableDefinedAt, definitionWords, FileTable, noDefinitions, defined, Braced, StatementsOf}
 use Rattle.grammar.proofs.Standing.{Standing, standing-head, standing-tail, standing-front, standing-back}
 use Rattle.grammar.proofs.FileRecorded.{form-many}
 use Rattle.grammar.proofs.Demand.{body-some}
-use Rattle.grammar.proofs.Tabled.{Stored, stands-head, stored-front, stored-back, list-tabled, name-tabled, arguments-front, arguments-back, body-tabled, body-walked}
+use Rattle.grammar.proofs.Tabled.{Stored, stands-head, stored-front, stored-back, in-parens, name-tabled, name-rises, list-rises, arguments-front, arguments-back, body-tabled, body-walked}
 
 -- what holds of the first token holds of the one at its place
 head-is : (kept : List Token) (p : ℕ) (t : Token) (xs : List Token) (K : Token → Type 0) → Standing kept p (t ∷ xs) → K t → K (tokenAt kept p)
@@ -49,24 +49,6 @@ typed-words events kept p xs b (typed {ix = ix} {l = l} {n = n} {is = is} {ls = 
     (perhaps kept (IsIndexed events) 0 (suc p) is ix i (standing-front kept (suc p) is (ls ++ ns) behind))
     (perhaps kept (λ x. Location (x .kind)) 0 (suc p + length is) ls l j (standing-front kept (suc p + length is) ls ns later))
     (perhaps kept (IsName (suc p + length is + length ls)) NONE (suc p + length is + length ls) ns n o (standing-back kept (suc p + length is) ls ns later)))
-
--- a list of arguments in parentheses
-in-parens : {σ : Type 0} {after : σ → Entry → σ} {W : σ → ℕ → List Token → Entry → Type 0} {U : σ → ℕ → List Token → Argument → Type 0} {One : ℕ → ℕ → List ℕ → Type 0}
-    (kept : List Token) (table : List ℕ)
-    → ((s : σ) (p : ℕ) (xs : List Token) (e : Entry) → W s p xs e → Separated (U s) p xs e)
-    → ((s : σ) (p : ℕ) (xs : List Token) (b : Argument) → U s p xs b → Standing kept p xs → One p (p + length xs) (argumentRecord b))
-    → (s : σ) (p : ℕ) (xs : List Token) (es : List Entry) (o c : Token)
-    → o .kind ≡ OpenParen → Many after W s (suc p) xs es → c .kind ≡ CloseParen
-    → Standing kept p (o ∷ (xs ++ (c ∷ [])))
-    → (a : ℕ) → Stored argumentWidth table a (map argumentRecord (arguments es))
-    → ParenTable One kept table a (length (arguments es)) p (p + length (o ∷ (xs ++ (c ∷ []))))
-in-parens {One = One} kept table sep one s p xs es o c e m k h a st =
-    let behind = standing-tail kept p o (xs ++ (c ∷ [])) h in
-    let l : suc (suc p + length xs) ≡ p + suc (length (xs ++ (c ∷ []))) = omega (arith, length-append xs (c ∷ [])) in
-    subst (ParenTable One kept table a (length (arguments es)) p) l
-    (parenTable (stands-head kept p o (xs ++ (c ∷ [])) h e)
-    (list-tabled kept table sep one s (suc p) xs es m (standing-front kept (suc p) xs (c ∷ []) behind) a st)
-    (stands-head kept (suc p + length xs) c [] (standing-back kept (suc p) xs (c ∷ []) behind) k))
 
 typed-separated : (events b : Bool) (p : ℕ) (xs : List Token) (e : Entry) → TypedEntry events b p xs e → Separated (TypedArgument events) p xs e
 typed-separated events b p xs e (typedEntry h s) = s
@@ -286,7 +268,7 @@ file-tabled m names kept n ds h definitions statements table hd hs ha =
 
 entries-flat : (kept : List Token) (statements : List ℕ) (type a i n p q digits : ℕ) → type ≢ labelType → EntryTable kept statements type a i n p q digits → Flat statements i n p q
 entries-flat kept statements type a i n p q digits other noEntries = refl
-entries-flat kept statements type a i n p q digits other (entry {n = k} {digits = l} s e rest) = rw e (other, refl, omega arith, entries-flat kept statements type a (suc i) k (suc p) q l other rest)
+entries-flat kept statements type a i n p q digits other (entry {n = k} {digits = l} s e rest) = rw e (other, refl, refl, omega arith, entries-flat kept statements type a (suc i) k (suc p) q l other rest)
 
 macro-numbers : (kind number : ℕ) → MacroAt kind number → (macroDefinition ≤ number) × (number ≤ testDefinition)
 macro-numbers kind number (macroAt e) = omega arith
@@ -298,39 +280,64 @@ table-numbers kind n digits number type size (jumpTableAt e) = omega arith
 table-numbers kind n digits number type size (packedTableAt e) = omega arith
 table-numbers kind n digits number type size (codeTableAt e) = omega arith
 
+-- nothing goes backwards
+parens-rise : (One : ℕ → ℕ → List ℕ → Type 0) → ((p q : ℕ) (w : List ℕ) → One p q w → p ≤ q) → (kept : List Token) (table : List ℕ) (a m p q : ℕ) → ParenTable One kept table a m p q → p ≤ q
+parens-rise One one kept table a m p q (parenTable {q = e} o l c) = omega (arith, list-rises One one kept table a m (suc p) e l)
+
+count-rises : (kept : List Token) (kind p q v : ℕ) → CountAt kept kind p q v → p ≤ q
+count-rises kept kind p q v noCount = omega arith
+count-rises kept kind p q v (count x y z w) = omega arith
+
+sign-rises : (kept : List Token) (kind p q : ℕ) → SignAt kept kind p q → p ≤ q
+sign-rises kept kind p q noSign = omega arith
+sign-rises kept kind p q (sign x) = omega arith
+
 -- what StatementsOf says, of the record's words
-abbrev Said : List Token → List ℕ → ℕ → ℕ → ℕ → ℕ → Type 0
-Said kept statements i n e kind =
-    (macroDefinition ≤ kind → kind ≤ testDefinition → Braced kept e (λ p q. Walk statements i p (i + n) q))
-    × (jumpTableDefinition ≤ kind → kind ≤ codeTableDefinition → Braced kept e (λ p q. Flat statements i n p q))
-    × (kind ≤ errorDefinition → n ≡ 0)
+record Said (kept : List Token) (statements : List ℕ) (i n p e kind : ℕ) : Type 0 where
+  least : importDefinition ≤ kind
+  most : kind ≤ codeTableDefinition
+  ofMacro : macroDefinition ≤ kind → kind ≤ testDefinition → Braced kept p e (λ x y. Walk statements i x (i + n) y)
+  ofTable : jumpTableDefinition ≤ kind → Braced kept p e (λ x y. Flat statements i n x y)
+  ofOther : kind ≤ errorDefinition → n ≡ 0
 
-without : (kept : List Token) (statements : List ℕ) (i e kind : ℕ) → kind ≤ errorDefinition → Said kept statements i 0 e kind
-without kept statements i e kind h = (λ x y. absurd (omega arith), λ x y. absurd (omega arith), λ x. refl)
+without : (kept : List Token) (statements : List ℕ) (i p e kind : ℕ) → importDefinition ≤ kind → kind ≤ errorDefinition → Said kept statements i 0 p e kind
+without kept statements i p e kind l h =
+    record { least = l; most = omega arith; ofMacro = λ x y. absurd (omega arith); ofTable = λ x. absurd (omega arith); ofOther = λ x. refl }
 
-definition-said : (kept : List Token) (statements table : List ℕ) (i n a m p e : ℕ) (w : Words) → DefinitionAt kept statements table i n a m p e w → Said kept statements i n e (w .kind)
-definition-said kept statements table i n a m p e w (importAt x y) = without kept statements i e (w .kind) (omega arith)
-definition-said kept statements table i n a m p e w (functionAt x y z u v) = without kept statements i e (w .kind) (omega arith)
-definition-said kept statements table i n a m p e w (eventAt x y) = without kept statements i e (w .kind) (omega arith)
-definition-said kept statements table i n a m p e w (constantDefinedAt x y z) = without kept statements i e (w .kind) (omega arith)
-definition-said kept statements table i n a m p e w (errorAt x y) = without kept statements i e (w .kind) (omega arith)
-definition-said kept statements table i n a m p e w (macroDefinedAt {m = l} {h = h} {s = s} {kind = kind} {number = number} x k y z t r b) =
+definition-said : (kept : List Token) (statements table : List ℕ) (i n a m p e : ℕ) (w : Words) → DefinitionAt kept statements table i n a m p e w → Said kept statements i n p e (w .kind)
+definition-said kept statements table i n a m p e w (importAt x y) = without kept statements i p e (w .kind) (omega arith) (omega arith)
+definition-said kept statements table i n a m p e w (functionAt x y z u v) = without kept statements i p e (w .kind) (omega arith) (omega arith)
+definition-said kept statements table i n a m p e w (eventAt x y) = without kept statements i p e (w .kind) (omega arith) (omega arith)
+definition-said kept statements table i n a m p e w (constantDefinedAt x y z) = without kept statements i p e (w .kind) (omega arith) (omega arith)
+definition-said kept statements table i n a m p e w (errorAt x y) = without kept statements i p e (w .kind) (omega arith) (omega arith)
+definition-said kept statements table i n a m p e w (macroDefinedAt {m = l} {h = h} {q = q} {r = r} {s = s} {kind = kind} {number = number} {takes = takes} {returns = returns} x k y z t u b) =
     let o = body-walked kept statements table i n (a + l) h s e b in
     let c = macro-numbers kind number k in
-    (λ f g. record { b = s; opens = o .0; closes = o .1; between = o .2 }, λ f g. absurd (omega arith), λ f. absurd (omega arith))
-definition-said kept statements table i n a m p e w (tableDefinedAt {s = s} {e = q} {kind = kind} {number = number} {type = type} {size = size} {digits = digits} x k y z t o b c) =
-    let r = table-numbers kind n digits number type size k in
-    let l : suc q - 1 ≡ q = omega arith in (
-      λ f g. absurd (omega arith),
-      λ f g. record { b = s; opens = o; closes = rw l c; between = rw l (entries-flat kept statements type a i n (suc s) q digits (r .2) b) },
-      λ f. absurd (omega arith),
-    )
+    let up : p < s = omega (arith, parens-rise (NameWords kept) (name-rises kept) kept table a l (suc (suc (suc p))) q y, count-rises kept Takes (suc q) r takes t, count-rises kept Returns r s returns u) in
+    record {
+      least = omega arith;
+      most = omega arith;
+      ofMacro = λ f g. record { b = s; behind = up; opens = o .0; closes = o .1; between = o .2 };
+      ofTable = λ f. absurd (omega arith);
+      ofOther = λ f. absurd (omega arith);
+    }
+definition-said kept statements table i n a m p e w (tableDefinedAt {q = q} {r = r} {s = s} {e = d} {kind = kind} {number = number} {type = type} {size = size} {digits = digits} x k y z t o b c) =
+    let numbers = table-numbers kind n digits number type size k in
+    let l : suc d - 1 ≡ d = omega arith in
+    let up : p < s = omega (arith, sign-rises kept OpenParen (suc (suc (suc p))) q y, sign-rises kept CloseParen q r z, sign-rises kept Assign r s t) in
+    record {
+      least = omega arith;
+      most = omega arith;
+      ofMacro = λ f g. absurd (omega arith);
+      ofTable = λ f. record { b = s; behind = up; opens = o; closes = rw l c; between = rw l (entries-flat kept statements type a i n (suc s) d digits (numbers .2) b) };
+      ofOther = λ f. absurd (omega arith);
+    }
 
 definition-walked : (kept : List Token) (definitions statements table : List ℕ) (d i n a m p e : ℕ) (w : Words) → DefinitionAt kept statements table i n a m p e w → recordOf definitionWidth definitions d ≡ definitionWords i n a p e w
     → StatementsOf kept definitions statements d
 definition-walked kept definitions statements table d i n a m p e w h r =
     let said = definition-said kept statements table i n a m p e w h in
-    record { ofMacro = rw r (said .0); ofTable = rw r (said .1); ofOther = rw r (said .2) }
+    record { least = rw r (said .least); most = rw r (said .most); ofMacro = rw r (said .ofMacro); ofTable = rw r (said .ofTable); ofOther = rw r (said .ofOther) }
 
 walked : (kept : List Token) (definitions statements table : List ℕ) (d k i n a m p q : ℕ) → FileTable kept definitions statements table d k i n a m p q
     → (j : ℕ) → j < k → StatementsOf kept definitions statements (d + j)

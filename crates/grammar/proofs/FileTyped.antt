@@ -23,7 +23,7 @@ use Rattle.grammar.specs.Typed.{indexedHere, locationHere, typedName, ty
 use Rattle.grammar.specs.Follows.{proper, allProper}
 use Rattle.grammar.specs.FileReading.{declared}
 use Rattle.grammar.specs.FileGrammar.{Optional, absent, present, Lone, lone, IsIndexed, isIndexed, IsName, isName, TypedArgument, typed, nameless, typeMay, TypedEntry, typedEntry, TypedList, typedList}
-use Rattle.grammar.specs.Cases.{mark}
+use Rattle.grammar.proofs.Lists.{mark}
 use Rattle.grammar.proofs.Holds.{Holds, well, StepHolds, refusing, leaving, going, Finish, got-holds, cond-says, choose-says, look-holds, holds-map, seq-holds, NoneOrOne, nothing, one, Some, many-holds, same-result, many-on, many-stop, as-seq}
 use Rattle.grammar.proofs.Sound.{Any, expect-holds, separated-holds, some-entry}
 use Rattle.grammar.proofs.Complete.{seq-complete, Opens, opening, opens-append, many-first}

@@ -1,5 +1,6 @@
 -- Small laws: two lists of tokens that agree at their beginning, proper tokens, what holds of every element.
 use Prim.Native.Nat.{ℕ, zero, suc, _+_, _≤_, _<_}
+use Prim.Native.String.{String}
 use native.Mathlib.Nat.{zero-add, suc-add}
 use native.Mathlib.Omega.{arith}
 use mathlib.Core.Path.{_≡_, refl, sym, _∙_, ap}
@@ -7,9 +8,17 @@ use mathlib.Core.Bool.{Bool, true, false, _&&_}
 use mathlib.Core.List.{List, [], _∷_, _++_, map}
 use lib.ListN.{length, take, drop}
 use lib.Seq.{take-take, take-nil}
+use Rattle.tokens.specs.Byte.{bytes}
 use Rattle.tokens.specs.Token.{Token, tokenAt}
 use Rattle.grammar.specs.Follows.{proper, allProper}
 use Rattle.grammar.specs.Facts.{All}
+
+-- a token of a kind that asks for no text, and one with a text: what a beginning can be finished with
+abbrev pub mark : ℕ → Token
+mark kind = record { kind = kind; text = []; extra = 0 }
+
+abbrev pub word : ℕ → String → Token
+word kind letters = record { kind = kind; text = bytes letters; extra = 0 }
 
 pub drop-take : (n m : ℕ) (ts : List Token) → drop n (take (n + m) ts) ≡ take m (drop n ts)
 drop-take zero m ts = ap (λ k. take k ts) (zero-add m)

@@ -4,6 +4,7 @@ use native.Mathlib.Nat.{add-zero, add-suc, suc-add}
 use native.Mathlib.Numerals.{add-one, add-two}
 use native.Mathlib.Omega.{arith}
 use mathlib.Core.Path.{_≡_, refl, sym, _∙_, ap}
+use mathlib.Core.Logic.{_≢_}
 use mathlib.Core.Bool.{Bool, true, false}
 use mathlib.Core.List.{List, [], _∷_, _++_, append-assoc, flatten}
 use lib.ListN.{length, take, drop, take-append-drop}
@@ -11,15 +12,42 @@ use lib.Seq.{getD-append-add, getD-drop}
 use lib.Dec.{eqb}
 use borrow.Author.Tests.{eqb-false}
 use Rattle.tokens.specs.Token.{Token, tokenAt, eofToken}
-use Rattle.tokens.specs.Kind.{OpenParen, Label}
+use Rattle.tokens.specs.Kind.{OpenParen, Ident, Label, Literal, Opcode, BuiltinFunction}
 use Rattle.grammar.specs.Reading.{Simple, Group, Reading, Sort, aLiteral, anOpcode, aLabelCall, anInvocation, aConstant, anArgumentCall, aBuiltin}
 use Rattle.grammar.specs.Rules.{Rules}
 use Rattle.grammar.specs.Grammar.{Many, none, more, Item, literal, opcode, push, labelCall, invocation, constant, argumentCall, builtin, forget, LabelGroup, group, remember, Body, body}
 use Rattle.grammar.specs.Reader.{endsItems, endsGroups}
 use Rattle.grammar.specs.Follows.{Follows}
-use Rattle.grammar.specs.Facts.{All, innerOf, simples, valueKind, At, NotCalled}
+use Rattle.grammar.specs.Facts.{All}
 use Rattle.grammar.proofs.Lists.{all-append, all-map}
 use Rattle.grammar.proofs.Complete.{calm, calm-open, calm-ends, many-first, item-opens, group-opens}
+
+-- the statements that are no labels, in order
+unfoldable pub innerOf : List Group → List Simple
+innerOf [] = []
+innerOf (g ∷ gs) = g .inner ++ innerOf gs
+
+-- all statements of a reading that are no labels
+abbrev pub simples : Reading → List Simple
+simples r = r .main ++ innerOf (r .groups)
+
+-- the kind of a statement's name or value token
+abbrev pub valueKind : Sort → ℕ
+valueKind aLiteral = Literal
+valueKind anOpcode = Opcode
+valueKind aLabelCall = Ident
+valueKind anInvocation = Ident
+valueKind aConstant = Ident
+valueKind anArgumentCall = Ident
+valueKind aBuiltin = BuiltinFunction
+
+-- a token t of kind k stands at place q of the list
+abbrev pub At : List Token → ℕ → Token → ℕ → Type 0
+At kept q t k = (tokenAt kept q ≡ t) × (t .kind ≡ k)
+
+-- of a statement that was read as a label call: an Ident stands at its place, and no `(` follows
+abbrev pub NotCalled : List Token → Simple → Type 0
+NotCalled kept s = s .sort ≡ aLabelCall → (tokenAt kept (s .place) .kind ≡ Ident) × (tokenAt kept (suc (s .place)) .kind ≢ OpenParen)
 
 -- what the token behind a statement's own may not be
 abbrev Behind : Sort → Token → Type 0

@@ -1,27 +1,29 @@
 -- The records of a body that follows the grammar are tables as Tables says: each word by the tokens at its places; and their ranges by the words alone.
 use Prim.Native.Nat.{ℕ, zero, suc, _+_, _-_, _*_, _≤_, _<_}
-use native.Mathlib.Nat.{add-zero, add-suc, suc-add, add-assoc, suc-mul, zero-mul}
+use native.Mathlib.Nat.{eq-or-lt-of-le, add-zero, add-suc, suc-add, add-assoc, suc-mul, zero-mul}
 use native.Mathlib.Numerals.{add-one, add-two, add-three}
 use native.Mathlib.Omega.{arith}
 use mathlib.Core.Path.{_≡_, refl, sym, _∙_, ap}
-use mathlib.Core.Logic.{_≢_}
-use mathlib.Core.Bool.{Bool, true}
+use mathlib.Core.Logic.{_≢_, ⊎-elim}
+use mathlib.Core.Bool.{Bool, true, false}
 use mathlib.Core.List.{List, [], _∷_, _++_, map, map-append, flatten, append-assoc}
 use lib.ListN.{length, getD, take, drop, replicate, length-append, length-map, length-drop, take-append-drop}
+use lib.Dec.{eqb, ltb}
+use borrow.Author.Tests.{eqb-true, eqb-false, ltb-true, ltb-false}
 use lib.Seq.{drop-at, take-at, length-take-le}
 use Rattle.tokens.specs.Number.{statementWidth, argumentWidth, labelType}
-use Rattle.tokens.specs.Kind.{CloseParen, OpenBrace, CloseBrace}
+use Rattle.tokens.specs.Kind.{OpenParen, CloseParen, OpenBrace, CloseBrace}
 use Rattle.tokens.specs.Token.{Token}
 use Rattle.grammar.specs.Reading.{Argument, Entry, Simple, Group, Reading, aLiteral, anOpcode, aLabelCall, anInvocation, aConstant, anArgumentCall, aBuiltin, single, enclosed, called, arguments}
 use Rattle.grammar.specs.Rules.{Rules}
 use Rattle.grammar.specs.Grammar.{Many, none, more, Item, literal, opcode, push, labelCall, invocation, constant, argumentCall, builtin, forget, LabelGroup, group, remember, Separated, alone, comma, Closed, closed, CallArgument, callLiteral, callName, callCalldata, callAngled, NameArgument, bare, placed, BuiltinArgument, builtinString, builtinLiteral, builtinName, Body, body}
 use Rattle.grammar.specs.Records.{typeOf, argumentsOf, groupArguments, allArguments, simpleRecords, groupRecords, groupCount, argumentRecord, statementRecords, argumentRecords, statementCount, argumentCount}
 use Rattle.grammar.specs.Follows.{Follows}
-use Rattle.grammar.specs.Facts.{All, innerOf, simples, NotCalled}
+use Rattle.grammar.specs.Facts.{All}
 use Rattle.grammar.specs.Call.{filled}
-use Rattle.grammar.specs.Tables.{recordOf, Stands, StatementAt, literalAt, opcodeAt, labelCallAt, invocationAt, constantAt, argumentCallAt, builtinAt, StatementTable, noStatements, statement, LabelTable, noLabels, label, CallWords, callLiteralWords, callNameWords, callCalldataWords, callAngledWords, NameWords, bareWords, placedWords, BuiltinWords, builtinStringWords, builtinLiteralWords, builtinNameWords, ListTable, noArguments, argument, argumentComma, BodyTable, bodyTable, endWord, Flat, Walk, arrived, onward}
+use Rattle.grammar.specs.Tables.{recordOf, Stands, StatementAt, literalAt, opcodeAt, labelCallAt, invocationAt, constantAt, argumentCallAt, builtinAt, StatementTable, noStatements, statement, LabelTable, noLabels, label, CallWords, callLiteralWords, callNameWords, callCalldataWords, callAngledWords, NameWords, bareWords, placedWords, BuiltinWords, builtinStringWords, builtinLiteralWords, builtinNameWords, ListTable, noArguments, argument, argumentComma, ParenTable, parenTable, BodyTable, bodyTable, typeWord, firstWord, endWord, innerWord, Flat, Walk, arrived, onward}
 use Rattle.grammar.proofs.Lists.{all-front, all-back}
-use Rattle.grammar.proofs.Places.{no-parenthesis}
+use Rattle.grammar.proofs.Places.{innerOf, simples, NotCalled, no-parenthesis}
 use Rattle.grammar.proofs.Recorded.{simple-count}
 use Rattle.grammar.proofs.Standing.{Standing, standing-head, standing-tail, standing-front, standing-back}
 
@@ -97,18 +99,32 @@ list-tabled {after = after} {U = U} {One = One} kept table sep one s p xs es (mo
     (separated-tabled (U s) One kept table (one s) p us e (sep s p us e w) (standing-front kept p us vs k) a (length (arguments fs)) (p + length us + length vs) (st .0)
     (list-tabled kept table sep one (after s e) (p + length us) vs fs m (standing-back kept p us vs k) (suc a) (st .1)))
 
--- a list as far as the `)` that ends it
-closed-tabled : (U : ℕ → ℕ → List Token → Argument → Type 0) (One : ℕ → ℕ → List ℕ → Type 0) (kept : List Token) (table : List ℕ)
+-- a list of arguments in parentheses
+pub in-parens : {σ : Type 0} {after : σ → Entry → σ} {W : σ → ℕ → List Token → Entry → Type 0} {U : σ → ℕ → List Token → Argument → Type 0} {One : ℕ → ℕ → List ℕ → Type 0}
+    (kept : List Token) (table : List ℕ)
+    → ((s : σ) (p : ℕ) (xs : List Token) (e : Entry) → W s p xs e → Separated (U s) p xs e)
+    → ((s : σ) (p : ℕ) (xs : List Token) (b : Argument) → U s p xs b → Standing kept p xs → One p (p + length xs) (argumentRecord b))
+    → (s : σ) (p : ℕ) (xs : List Token) (es : List Entry) (o c : Token)
+    → o .kind ≡ OpenParen → Many after W s (suc p) xs es → c .kind ≡ CloseParen
+    → Standing kept p (o ∷ (xs ++ (c ∷ [])))
+    → (a : ℕ) → Stored argumentWidth table a (map argumentRecord (arguments es))
+    → ParenTable One kept table a (length (arguments es)) p (p + length (o ∷ (xs ++ (c ∷ []))))
+in-parens {One = One} kept table sep one s p xs es o c e m k h a st =
+    let behind = standing-tail kept p o (xs ++ (c ∷ [])) h in
+    let l : suc (suc p + length xs) ≡ p + suc (length (xs ++ (c ∷ []))) = omega (arith, length-append xs (c ∷ [])) in
+    rw (← l)
+    (parenTable (stands-head kept p o (xs ++ (c ∷ [])) h e)
+    (list-tabled kept table sep one s (suc p) xs es m (standing-front kept (suc p) xs (c ∷ []) behind) a st)
+    (stands-head kept (suc p + length xs) c [] (standing-back kept (suc p) xs (c ∷ []) behind) k))
+
+-- the same, of a list that ends at its `)`
+closed-parens : (U : ℕ → ℕ → List Token → Argument → Type 0) (One : ℕ → ℕ → List ℕ → Type 0) (kept : List Token) (table : List ℕ)
     → ((n p : ℕ) (xs : List Token) (b : Argument) → U n p xs b → Standing kept p xs → One p (p + length xs) (argumentRecord b))
-    → (p : ℕ) (xs : List Token) (args : List Argument) → Closed U p xs args → Standing kept p xs
+    → (p : ℕ) (o : Token) (xs : List Token) (args : List Argument) → o .kind ≡ OpenParen → Closed U (suc p) xs args → Standing kept p (o ∷ xs)
     → (a : ℕ) → Stored argumentWidth table a (map argumentRecord args)
-    → (q : ℕ) × (p + length xs ≡ suc q) × ListTable One kept table a (length args) p q × Stands kept q CloseParen
-closed-tabled U One kept table one p xs args (closed {xs = us} {es = es} c m e) k a st = (
-  p + length us,
-  omega (arith, length-append us (c ∷ [])),
-  list-tabled {U = U} {One = One} kept table (λ n q ys b u. u) one 0 p us es m (standing-front kept p us (c ∷ []) k) a st,
-  stands-head kept (p + length us) c [] (standing-back kept p us (c ∷ []) k) e,
-)
+    → ParenTable One kept table a (length args) p (suc p + length xs)
+closed-parens U One kept table one p o xs args e (closed {xs = us} {es = es} c m k) h a st =
+    rw (add-suc p (length (us ++ (c ∷ []))), ← suc-add p (length (us ++ (c ∷ [])))) at (in-parens {U = U} {One = One} kept table (λ n q ys b u. u) one 0 p us es o c e m k h a st)
 
 -- an argument of a call, one that is a name, one of a builtin
 call-tabled : (kept : List Token) (n p : ℕ) (xs : List Token) (b : Argument) → CallArgument n p xs b → Standing kept p xs → CallWords kept p (p + length xs) (argumentRecord b)
@@ -174,8 +190,7 @@ module _ (kept : List Token) (statements table : List ℕ) where
       in-front (single aLabelCall p t) ts (p + 1) q (add-one p) (λ a c h. labelCallAt (stands-head kept p t [] k e) (c refl .1)) rest
   item-tabled takes p xs ss (invocation {xs = us} {args = args} t o e f c) k ts q rest =
       in-front (called anInvocation p t (suc (suc p) + length us) args) ts (p + suc (suc (length us))) q (omega arith)
-      (λ a n h. let l = closed-tabled CallArgument (CallWords kept) kept table (call-tabled kept) (suc (suc p)) us args c (behind-two kept p t o us k) a h in
-      rw (l .1) (invocationAt (stands-head kept p t (o ∷ us) k e) (stands-second kept p t o us k f) (l .2) (l .3))) rest
+      (λ a n h. invocationAt (stands-head kept p t (o ∷ us) k e) (closed-parens CallArgument (CallWords kept) kept table (call-tabled kept) (suc p) o us args f c (standing-tail kept p t (o ∷ us) k) a h)) rest
   item-tabled takes p xs ss (constant l t r e f g) k ts q rest =
       in-front (enclosed aConstant p t) ts (p + 3) q (add-three p)
       (λ a c h. constantAt (stands-head kept p l (t ∷ r ∷ []) k e) (stands-second kept p l t (r ∷ []) k f) (stands-third kept p l t r [] k g)) rest
@@ -184,8 +199,7 @@ module _ (kept : List Token) (statements table : List ℕ) where
       (λ a c h. argumentCallAt (stands-head kept p l (t ∷ r ∷ []) k e) (stands-second kept p l t (r ∷ []) k f) (stands-third kept p l t r [] k g)) rest
   item-tabled takes p xs ss (builtin {xs = us} {args = args} t o e f c) k ts q rest =
       in-front (called aBuiltin p t (suc (suc p) + length us) args) ts (p + suc (suc (length us))) q (omega arith)
-      (λ a n h. let l = closed-tabled BuiltinArgument (BuiltinWords kept) kept table (builtin-tabled kept) (suc (suc p)) us args c (behind-two kept p t o us k) a h in
-      rw (l .1) (builtinAt (stands-head kept p t (o ∷ us) k e) (stands-second kept p t o us k f) (l .2) (l .3))) rest
+      (λ a n h. builtinAt (stands-head kept p t (o ∷ us) k e) (closed-parens BuiltinArgument (BuiltinWords kept) kept table (builtin-tabled kept) (suc p) o us args f c (standing-tail kept p t (o ∷ us) k) a h)) rest
 
   items-tabled : (takes : Bool) (s : Unit {0}) (p : ℕ) (xs : List Token) (is : List (List Simple)) → Many forget (λ s. Item takes) s p xs is → Standing kept p xs
       → Tabled (flatten is) p (p + length xs)
@@ -255,7 +269,7 @@ body-tabled m kept p n r h statements table i a hs ha =
     (tokens-tabled kept statements table m p (take n (drop p kept)) r (h .1) (drop n (drop p kept), sym (take-append-drop n (drop p kept))) (no-parenthesis m kept p n r h) i a hs ha)
 
 -- no argument ends before it begins, and no list
-name-rises : (kept : List Token) (p q : ℕ) (w : List ℕ) → NameWords kept p q w → p ≤ q
+pub name-rises : (kept : List Token) (p q : ℕ) (w : List ℕ) → NameWords kept p q w → p ≤ q
 name-rises kept p q w (bareWords h) = omega arith
 name-rises kept p q w (placedWords l h) = omega arith
 
@@ -270,7 +284,7 @@ builtin-rises kept p q w (builtinStringWords h) = omega arith
 builtin-rises kept p q w (builtinLiteralWords h) = omega arith
 builtin-rises kept p q w (builtinNameWords h) = name-rises kept p q w h
 
-list-rises : (One : ℕ → ℕ → List ℕ → Type 0) → ((p q : ℕ) (w : List ℕ) → One p q w → p ≤ q) → (kept : List Token) (table : List ℕ) (a n p q : ℕ) → ListTable One kept table a n p q → p ≤ q
+pub list-rises : (One : ℕ → ℕ → List ℕ → Type 0) → ((p q : ℕ) (w : List ℕ) → One p q w → p ≤ q) → (kept : List Token) (table : List ℕ) (a n p q : ℕ) → ListTable One kept table a n p q → p ≤ q
 list-rises One one kept table a n p q noArguments = omega arith
 list-rises One one kept table a n p q (argument {m = m} {e = e} o rest) = omega (arith, one p e (recordOf argumentWidth table a) o, list-rises One one kept table (suc a) m e q rest)
 list-rises One one kept table a n p q (argumentComma {m = m} {e = e} o c rest) = omega (arith, one p e (recordOf argumentWidth table a) o, list-rises One one kept table (suc a) m (suc e) q rest)
@@ -280,14 +294,14 @@ statement-rises : (kept : List Token) (table : List ℕ) (a m p q type place : �
 statement-rises kept table a m p q type place (literalAt h) = omega arith
 statement-rises kept table a m p q type place (opcodeAt h) = omega arith
 statement-rises kept table a m p q type place (labelCallAt h n) = omega arith
-statement-rises kept table a m p q type place (invocationAt {q = e} h o l c) = omega (arith, list-rises (CallWords kept) (call-rises kept) kept table a m (suc (suc p)) e l)
+statement-rises kept table a m p q type place (invocationAt h (parenTable {q = e} o l c)) = omega (arith, list-rises (CallWords kept) (call-rises kept) kept table a m (suc (suc p)) e l)
 statement-rises kept table a m p q type place (constantAt h i j) = omega arith
 statement-rises kept table a m p q type place (argumentCallAt h i j) = omega arith
-statement-rises kept table a m p q type place (builtinAt {q = e} h o l c) = omega (arith, list-rises (BuiltinWords kept) (builtin-rises kept) kept table a m (suc (suc p)) e l)
+statement-rises kept table a m p q type place (builtinAt h (parenTable {q = e} o l c)) = omega (arith, list-rises (BuiltinWords kept) (builtin-rises kept) kept table a m (suc (suc p)) e l)
 
 flat-rises : (statements : List ℕ) (i n p q : ℕ) → Flat statements i n p q → p ≤ q
 flat-rises statements i zero p q h = omega arith
-flat-rises statements i (suc n) p q h = omega (arith, h .2, flat-rises statements (suc i) n (endWord statements i) q (h .3))
+flat-rises statements i (suc n) p q h = omega (arith, h .3, flat-rises statements (suc i) n (endWord statements i) q (h .4))
 
 -- a step past record i, which has these words
 step : (statements : List ℕ) (i type p e f k x y z j q : ℕ) → recordOf statementWidth statements i ≡ type ∷ p ∷ e ∷ f ∷ k ∷ x ∷ y ∷ z ∷ []
@@ -305,7 +319,7 @@ module _ (kept : List Token) (statements table : List ℕ) where
   flat i n a m p q noStatements = refl
   flat i n a m p q (statement {n = l} {k = k} {m = h} {e = e} {type = type} {place = place} s r rest) =
       let up = statement-rises kept table a k p e type place s in
-      rw r (up .1, refl, up .0, flat (suc i) l (a + k) h e q rest)
+      rw r (up .1, refl, refl, up .0, flat (suc i) l (a + k) h e q rest)
 
   walk-statements : (i n a m p e : ℕ) → StatementTable kept statements table i n a m p e
       → (j q : ℕ) → Walk statements (i + n) e j q
@@ -323,6 +337,45 @@ module _ (kept : List Token) (statements table : List ℕ) where
       let end : i + (suc k + l) ≡ suc i + k + l = omega arith in
       rw end (step statements i labelType p e (suc i) k a 0 p (suc i + k + l) q r (omega (arith, flat-rises statements (suc i) k (suc (suc p)) e within)) (λ x. within) (λ x. absurd (x refl))
       (walk-labels (suc i + k) l (a + h) o e q rest))
+
+-- no record that lies flat is a label
+flat-none : (statements : List ℕ) (i n p q : ℕ) → Flat statements i n p q → (x : ℕ) → i ≤ x → x < i + n → typeWord statements x ≢ labelType
+flat-none statements i zero p q h x l b = absurd (omega arith)
+flat-none statements i (suc n) p q h x l b =
+    ⊎-elim (λ (here : i ≡ x). rw (← here) (h .0)) (λ (later : i < x). flat-none statements (suc i) n (endWord statements i) q (h .4) x later (omega arith)) (eq-or-lt-of-le l)
+
+-- every label among the records that a walk passes, and those that these hold, holds its inner ones flat
+pub walk-labels-all : (statements : List ℕ) (i p j q : ℕ) → Walk statements i p j q
+    → (x : ℕ) → i ≤ x → x < j → typeWord statements x ≡ labelType
+    → Flat statements (suc x) (innerWord statements x) (suc (suc (firstWord statements x))) (endWord statements x)
+walk-labels-all statements i p j q arrived x l h e = absurd (omega arith)
+walk-labels-all statements i p j q (onward f up held rest) x l h e =
+    go (eqb (typeWord statements i) labelType) refl (walk-labels-all statements (suc i + innerWord statements i) (endWord statements i) j q rest x)
+  where
+    Held-flat : Type 0
+    Held-flat = Flat statements (suc x) (innerWord statements x) (suc (suc (firstWord statements x))) (endWord statements x)
+
+    -- what record i holds are no labels
+    None : Type 0
+    None = (y : ℕ) → suc i ≤ y → y < suc i + innerWord statements i → typeWord statements y ≢ labelType
+
+    -- and behind these the walk goes on
+    Later : Type 0
+    Later = suc i + innerWord statements i ≤ x → x < j → typeWord statements x ≡ labelType → Held-flat
+
+    behind : None → Later → i < x → (b : Bool) → ltb x (suc i + innerWord statements i) ≡ b → Held-flat
+    behind free later k true g = absurd (free x k (ltb-true _ _ g) e)
+    behind free later k false g = later (ltb-false _ _ g) h e
+
+    apart : None → Later → Held-flat
+    apart free later =
+        ⊎-elim (λ (here : i ≡ x). rw (← here) (held .inLabel (ap (typeWord statements) here ∙ e)))
+        (λ (k : i < x). behind free later k (ltb x (suc i + innerWord statements i)) refl)
+        (eq-or-lt-of-le l)
+
+    go : (b : Bool) → eqb (typeWord statements i) labelType ≡ b → Later → Held-flat
+    go true g later = apart (flat-none statements (suc i) (innerWord statements i) (suc (suc (firstWord statements i))) (endWord statements i) (held .inLabel (eqb-true _ _ g))) later
+    go false g later = apart (λ y a b. absurd (omega (arith, held .elsewhere (eqb-false _ _ g)))) later
 
 -- the ranges by the words alone: from behind the opening brace to the closing one, up to the last record
 pub body-walked : (kept : List Token) (statements table : List ℕ) (i n a m p q : ℕ) → BodyTable kept statements table i n a m p q

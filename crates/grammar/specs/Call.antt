@@ -1,5 +1,5 @@
 -- What both calls say alike: the five numbers of an answer, and what a lent table holds afterwards.
-use Prim.Native.Nat.{ℕ, _+_, _-_}
+use Prim.Native.Nat.{ℕ, _+_, _-_, _<_}
 use mathlib.Core.Bool.{cond, _||_}
 use mathlib.Core.List.{List, [], _∷_, _++_, flatten}
 use lib.ListN.{length, replicate}
@@ -11,6 +11,10 @@ use Rattle.grammar.specs.PlainLength.{plainLength}
 use Rattle.grammar.specs.FileReading.{Definition}
 use Rattle.grammar.specs.FileRecords.{fileArguments, fileStatementCount}
 use Rattle.grammar.specs.Result.{Answer, read, refused}
+
+-- the numbers of a reading's refusals, 1 to 22: above an accepted call's 0, below those of the door and of the room
+abbrev pub ReadingNumber : ℕ → Type 0
+ReadingNumber c = (0 < c) × (c < NotWellFormed)
 
 -- a refusal: its number, its cursor, "counts and length 0"
 abbrev pub refusal : ℕ → ℕ → List ℕ
@@ -35,7 +39,7 @@ abbrev pub recordsOf : {A : Type 0} → (A → List (List ℕ)) → Answer A →
 recordsOf records (read x n) = records x
 recordsOf records (refused c q) = []
 
--- so many words: the records, followed by zeros
+-- so many words: the records, where they fit, followed by zeros
 abbrev pub filled : ℕ → List (List ℕ) → List ℕ
 filled size rs = flatten rs ++ replicate (size - length (flatten rs)) 0
 

@@ -1,10 +1,10 @@
 -- Document 01, "Bodies and files on both sides": the rows marked P, input and answer side by side, and further bodies. Eof follows each body.
-use Prim.Native.Nat.{ℕ, _+_}
+use Prim.Native.Nat.{ℕ, suc}
 use Prim.Native.String.{String}
 use mathlib.Core.List.{List, [], _∷_, _++_}
 use Rattle.tokens.specs.Byte.{bytes}
-use Rattle.tokens.specs.Token.{Token, eofToken}
-use Rattle.tokens.specs.Kind.{Calldata, Memory, OpenParen, CloseParen, OpenBrace, CloseBrace, OpenBracket, CloseBracket, LeftAngle, RightAngle, Comma, Colon, Ident, Label, Literal, Opcode, Str, BuiltinFunction, PrimitiveType}
+use Rattle.tokens.specs.Token.{Token}
+use Rattle.tokens.specs.Kind.{Eof, Calldata, Memory, OpenParen, CloseParen, OpenBrace, CloseBrace, OpenBracket, CloseBracket, LeftAngle, RightAngle, Comma, Colon, Ident, Label, Literal, Opcode, Num, Str, BuiltinFunction, PrimitiveType}
 use Rattle.grammar.specs.Reading.{NONE, Reading}
 use Rattle.grammar.specs.Records.{statementRecords, argumentRecords}
 use Rattle.grammar.specs.Result.{Answer}
@@ -20,37 +20,44 @@ pub record Outcome : Type 0 where
 abbrev pub outcome : ℕ → Answer Reading → Outcome
 outcome p x = record { answers = bodyNumbers p x; statements = recordsOf (statementRecords 0 0) x; arguments = recordsOf argumentRecords x }
 
--- a token of a kind whose text no rule looks at
-abbrev pub mark : ℕ → Token
-mark kind = record { kind = kind; text = []; extra = 0 }
+-- a token as a row has it: of a kind whose text no rule looks at; with its text; an opcode by its byte; a number
+pub data Sketch : Type 0 where
+  mark : ℕ → Sketch
+  word : ℕ → String → Sketch
+  byte : ℕ → Sketch
+  num : ℕ → Sketch
 
--- a token with a text
-abbrev pub word : ℕ → String → Token
-word kind text = record { kind = kind; text = bytes text; extra = 0 }
+-- the token, with this text where no rule looks at it
+abbrev pub drawn : List ℕ → Sketch → Token
+drawn text (mark kind) = record { kind = kind; text = text; extra = 0 }
+drawn text (word kind letters) = record { kind = kind; text = bytes letters; extra = 0 }
+drawn text (byte b) = record { kind = Opcode; text = text; extra = b }
+drawn text (num n) = record { kind = Num; text = text; extra = n }
 
--- an opcode, by its byte
-abbrev pub byte : ℕ → Token
-byte b = record { kind = Opcode; text = []; extra = b }
+-- the tokens of a row, such texts taken from a list without end from number i on
+unfoldable pub tokensOf : (ℕ → List ℕ) → ℕ → List Sketch → List Token
+tokensOf texts i [] = []
+tokensOf texts i (s ∷ ss) = drawn (texts i) s ∷ tokensOf texts (suc i) ss
 
 -- a body between its braces, and Eof
-abbrev pub braced : List Token → List Token
-braced ts = (mark OpenBrace ∷ ts) ++ (mark CloseBrace ∷ eofToken ∷ [])
+abbrev pub braced : List Sketch → List Sketch
+braced ts = (mark OpenBrace ∷ ts) ++ (mark CloseBrace ∷ mark Eof ∷ [])
 
 -- PUSH1 of the Yellow Paper
-abbrev pub PUSH1 : Token
+abbrev pub PUSH1 : Sketch
 PUSH1 = byte 0x60
 
 -- a row: the tokens between the braces, and the outcome of the call at 0
 pub record Row : Type 0 where
-  pub input : List Token
+  pub input : List Sketch
   pub outcome : Outcome
 
 -- a row that is accepted: cursor, statements, arguments, plain length; statement records; argument records
-abbrev pub acceptedRow : List Token → List ℕ → List (List ℕ) → List (List ℕ) → Row
+abbrev pub acceptedRow : List Sketch → List ℕ → List (List ℕ) → List (List ℕ) → Row
 acceptedRow input answers statements arguments = record { input = input; outcome = record { answers = 0 ∷ answers; statements = statements; arguments = arguments } }
 
 -- a row that is refused: number and cursor
-abbrev pub refusedRow : List Token → ℕ → ℕ → Row
+abbrev pub refusedRow : List Sketch → ℕ → ℕ → Row
 refusedRow input c q = record { input = input; outcome = record { answers = refusal c q; statements = []; arguments = [] } }
 
 -- the rows marked P

@@ -1,14 +1,13 @@
 -- Document 01, "Bodies and files on both sides": the rows of files, input and answer side by side, and further files. Eof follows each.
 use Prim.Native.Nat.{ℕ}
 use mathlib.Core.List.{List, [], _∷_, _++_}
-use Rattle.tokens.specs.Token.{Token, eofToken}
-use Rattle.tokens.specs.Kind.{Include, Define, Pound, Macro, Fn, Test, Function, Event, Constant, Error, JumpTable, JumpTablePacked, CodeTable, Takes, Returns, View, Indexed, Calldata, Memory, Assign, OpenParen, CloseParen, OpenBrace, CloseBrace, Comma, Colon, FreeStoragePointer, Ident, Label, Literal, Num, Str, PrimitiveType}
+use Rattle.tokens.specs.Kind.{Eof, Include, Define, Pound, Macro, Fn, Test, Function, Event, Constant, Error, JumpTable, JumpTablePacked, CodeTable, Takes, Returns, View, Indexed, Calldata, Memory, Assign, OpenParen, CloseParen, OpenBrace, CloseBrace, Comma, Colon, FreeStoragePointer, Ident, Label, Literal, Str, PrimitiveType}
 use Rattle.grammar.specs.Reading.{NONE}
 use Rattle.grammar.specs.FileReading.{Definition}
 use Rattle.grammar.specs.FileRecords.{definitionRecords, fileStatements, fileArgumentRecords}
 use Rattle.grammar.specs.Result.{Answer}
 use Rattle.grammar.specs.Call.{refusal, fileNumbers, recordsOf}
-use Rattle.grammar.specs.Cases.{mark, word}
+use Rattle.grammar.specs.Cases.{Sketch, mark, word, num}
 
 -- what a file call answers: number, cursor, definitions, statements, arguments; and the records of the three tables
 pub record FileOutcome : Type 0 where
@@ -27,34 +26,30 @@ fileOutcome x =
       arguments = recordsOf fileArgumentRecords x;
     }
 
--- a number token
-abbrev pub num : ℕ → Token
-num n = record { kind = Num; text = []; extra = n }
-
 -- a row: the tokens before Eof, and the outcome
 pub record FileRow : Type 0 where
-  pub input : List Token
+  pub input : List Sketch
   pub outcome : FileOutcome
 
 -- a file and its Eof
-abbrev pub ended : List Token → List Token
-ended ts = ts ++ (eofToken ∷ [])
+abbrev pub ended : List Sketch → List Sketch
+ended ts = ts ++ (mark Eof ∷ [])
 
 -- a row that is accepted: cursor and counts; definition, statement and argument records
-abbrev pub acceptedFile : List Token → List ℕ → List (List ℕ) → List (List ℕ) → List (List ℕ) → FileRow
+abbrev pub acceptedFile : List Sketch → List ℕ → List (List ℕ) → List (List ℕ) → List (List ℕ) → FileRow
 acceptedFile input answers definitions statements arguments =
     record { input = input; outcome = record { answers = 0 ∷ answers; definitions = definitions; statements = statements; arguments = arguments } }
 
 -- a row that is refused: number and cursor
-abbrev pub refusalFile : List Token → ℕ → ℕ → FileRow
+abbrev pub refusalFile : List Sketch → ℕ → ℕ → FileRow
 refusalFile input c q = record { input = input; outcome = record { answers = refusal c q; definitions = []; statements = []; arguments = [] } }
 
 -- #define kind name
-abbrev pub head : ℕ → Token → List Token → List Token
+abbrev pub head : ℕ → Sketch → List Sketch → List Sketch
 head kind name ts = mark Define ∷ mark kind ∷ name ∷ ts
 
 -- #define kind name ( ) = { }
-abbrev pub bare : ℕ → Token → List Token
+abbrev pub bare : ℕ → Sketch → List Sketch
 bare kind name = head kind name (mark OpenParen ∷ mark CloseParen ∷ mark Assign ∷ mark OpenBrace ∷ mark CloseBrace ∷ [])
 
 abbrev pub fileRows : List FileRow

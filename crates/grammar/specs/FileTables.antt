@@ -1,6 +1,7 @@
--- What a reader of the tables relies on, for files: each word of each definition record, and of the records it points at, said by the kinds of the tokens at
--- its places. No reading and no parser stands here. The numbers of a family are those of Tables: `i n` statements, `a m` arguments, `p q` the range.
-use Prim.Native.Nat.{ℕ, suc, _+_, _-_, _*_, _/_, _≤_}
+-- What a reader of the tables relies on, for files: each word of each definition record of an accepted call, and of the records it points at, said by the tokens
+-- at its places: their kinds, a Num's number, the length of an entry's text, and that the name of an argument with a type is not reserved. No reading and no parser
+-- stands here. The numbers of a family are those of Tables: `i n` statements, `a m` arguments, `p q` the range.
+use Prim.Native.Nat.{ℕ, suc, _+_, _-_, _*_, _/_, _≤_, _<_}
 use mathlib.Core.Path.{_≡_}
 use mathlib.Core.Bool.{Bool, true, false}
 use mathlib.Core.List.{List, [], _∷_}
@@ -11,14 +12,14 @@ use Rattle.tokens.specs.Kind.{Include, Define, Macro, Fn, Test, Function, Event
 use Rattle.grammar.specs.Reading.{NONE}
 use Rattle.grammar.specs.Grammar.{Location}
 use Rattle.grammar.specs.FileGrammar.{IsIndexed, IsName, FunctionType}
-use Rattle.grammar.specs.Tables.{recordOf, Stands, NameWords, ListTable, BodyTable, Flat, Walk}
+use Rattle.grammar.specs.Tables.{recordOf, Stands, NameWords, ParenTable, BodyTable, Flat, Walk}
 
--- at place p a token of which K says the number v, and q is behind it; or none, v is d and q is p
+-- at place p a token of which K says the number v, and q is behind it; or none is taken, v is d and q is p: what has to stand at q then shows that none is there
 pub data Perhaps (kept : List Token) (K : Token → ℕ → Type 0) (d : ℕ) : ℕ → ℕ → ℕ → Type 0 where
   nothingThere : {p : ℕ} → Perhaps kept K d p p d
   oneThere : {p v : ℕ} → K (tokenAt kept p) v → Perhaps kept K d p (suc p) v
 
--- an argument with a type: Indexed in events, location and name may be missing
+-- an argument with a type; Indexed (events only), location and name may each be missing
 pub data TypedWords (events : Bool) (kept : List Token) : ℕ → ℕ → List ℕ → Type 0 where
   typedWords : {p r s q indexed location name : ℕ}
       → Stands kept p PrimitiveType
@@ -27,15 +28,7 @@ pub data TypedWords (events : Bool) (kept : List Token) : ℕ → ℕ → List �
       → Perhaps kept (IsName s) NONE s q name
       → TypedWords events kept p q (nameForm ∷ p ∷ name ∷ indexed ∷ location ∷ p ∷ q ∷ [])
 
--- a list of arguments in parentheses: `a m p q`
-pub data ParenTable (One : ℕ → ℕ → List ℕ → Type 0) (kept : List Token) (arguments : List ℕ) : ℕ → ℕ → ℕ → ℕ → Type 0 where
-  parenTable : {a m p q : ℕ}
-      → Stands kept p OpenParen
-      → ListTable One kept arguments a m (suc p) q
-      → Stands kept q CloseParen
-      → ParenTable One kept arguments a m p (suc q)
-
--- Takes or Returns with `(` Num `)`, and its number; or nothing and 0
+-- Takes or Returns with `(` Num `)`, and its number; or nothing is taken, and 0
 pub data CountAt (kept : List Token) (kind : ℕ) : ℕ → ℕ → ℕ → Type 0 where
   noCount : {p : ℕ} → CountAt kept kind p p 0
   count : {p : ℕ}
@@ -45,7 +38,7 @@ pub data CountAt (kept : List Token) (kind : ℕ) : ℕ → ℕ → ℕ → Type
       → Stands kept (suc (suc (suc p))) CloseParen
       → CountAt kept kind p (suc (suc (suc (suc p)))) (tokenAt kept (suc (suc p)) .extra)
 
--- a sign that may be missing
+-- a sign that is taken or not
 pub data SignAt (kept : List Token) (kind : ℕ) : ℕ → ℕ → Type 0 where
   noSign : {p : ℕ} → SignAt kept kind p p
   sign : {p : ℕ} → Stands kept p kind → SignAt kept kind p (suc p)
@@ -61,7 +54,7 @@ pub data MacroAt (kind : ℕ) : ℕ → Type 0 where
   fnAt : kind ≡ Fn → MacroAt kind fnDefinition
   testAt : kind ≡ Test → MacroAt kind testDefinition
 
--- the entries of a table as statements of this type, behind a argument records: `i n p q`, and the digits of their texts
+-- the entries of a table as statements of this type, behind a argument records: `i n p q`, and the bytes of their texts, which are a code table's digits
 pub data EntryTable (kept : List Token) (statements : List ℕ) (type a : ℕ) : ℕ → ℕ → ℕ → ℕ → ℕ → Type 0 where
   noEntries : {i p : ℕ} → EntryTable kept statements type a i 0 p p 0
   entry : {i n p q digits : ℕ}
@@ -70,7 +63,7 @@ pub data EntryTable (kept : List Token) (statements : List ℕ) (type a : ℕ) :
       → EntryTable kept statements type a (suc i) n (suc p) q digits
       → EntryTable kept statements type a i (suc n) p q (length (tokenAt kept p .text) + digits)
 
--- the three kinds of tables: the number in a record, the type of an entry, and the size of n entries with so many digits
+-- the three kinds of tables: the number in a record, the type of an entry, and the size of n entries with so many bytes of text
 pub data TableAt (kind n digits : ℕ) : ℕ → ℕ → ℕ → Type 0 where
   jumpTableAt : kind ≡ JumpTable → TableAt kind n digits jumpTableDefinition labelCallType (32 * n)
   packedTableAt : kind ≡ JumpTablePacked → TableAt kind n digits packedTableDefinition labelCallType (2 * n)
@@ -161,19 +154,24 @@ pub data FileTable (kept : List Token) (definitions statements arguments : List 
 abbrev pub definitionWord : ℕ → List ℕ → ℕ → ℕ
 definitionWord j definitions d = getD (recordOf definitionWidth definitions d) j 0
 
--- a body between the braces at b and e - 1: a macro's statements walk from the one to the other, a table's lie flat
-pub record Braced (kept : List Token) (e : ℕ) (Between : ℕ → ℕ → Type 0) : Type 0 where
+-- an opening brace at some b behind p, a closing one at e - 1, and what is said of the places from behind the one to the other
+pub record Braced (kept : List Token) (p e : ℕ) (Between : ℕ → ℕ → Type 0) : Type 0 where
   pub b : ℕ
+  pub behind : p < b
   pub opens : Stands kept b OpenBrace
   pub closes : Stands kept (e - 1) CloseBrace
   pub between : Between (suc b) (e - 1)
 
--- the statements of definition record d, from its first one on: of kind 6 to 8 they are walked, of kind 9 to 11 they lie flat, of any other there are none
+-- the statements of definition record d, from its first one on: of kind 6 to 8 they are walked, of kind 9 to 11 they lie flat, of 1 to 5 there are none; and there
+-- are no other kinds
 pub record StatementsOf (kept : List Token) (definitions statements : List ℕ) (d : ℕ) : Type 0 where
+  pub least : importDefinition ≤ definitionWord 0 definitions d
+  pub most : definitionWord 0 definitions d ≤ codeTableDefinition
   pub ofMacro : macroDefinition ≤ definitionWord 0 definitions d
       → definitionWord 0 definitions d ≤ testDefinition
-      → Braced kept (definitionWord 3 definitions d) (λ p q. Walk statements (definitionWord 8 definitions d) p (definitionWord 8 definitions d + definitionWord 9 definitions d) q)
+      → Braced kept (definitionWord 2 definitions d) (definitionWord 3 definitions d)
+      (λ p q. Walk statements (definitionWord 8 definitions d) p (definitionWord 8 definitions d + definitionWord 9 definitions d) q)
   pub ofTable : jumpTableDefinition ≤ definitionWord 0 definitions d
-      → definitionWord 0 definitions d ≤ codeTableDefinition
-      → Braced kept (definitionWord 3 definitions d) (λ p q. Flat statements (definitionWord 8 definitions d) (definitionWord 9 definitions d) p q)
+      → Braced kept (definitionWord 2 definitions d) (definitionWord 3 definitions d)
+      (λ p q. Flat statements (definitionWord 8 definitions d) (definitionWord 9 definitions d) p q)
   pub ofOther : definitionWord 0 definitions d ≤ errorDefinition → definitionWord 9 definitions d ≡ 0

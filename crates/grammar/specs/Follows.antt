@@ -5,6 +5,7 @@ use mathlib.Core.Bool.{Bool, true, cond, not, _&&_, _||_}
 use mathlib.Core.List.{List, [], _∷_, _++_}
 use lib.ListN.{length, take, drop}
 use lib.Dec.{eqb, ltb}
+use Rattle.tokens.specs.Number.{InvalidPush, InvalidArgs}
 use Rattle.tokens.specs.Token.{Token, tokenAt}
 use Rattle.tokens.specs.Kind.{kinds, Eof, Whitespace, Comment, Literal, Comma}
 use Rattle.tokens.specs.WellFormed.{textGood, extraGood}
@@ -47,7 +48,7 @@ pub record FirstWrong (m : Rules) (kept : List Token) (p w : ℕ) : Type 0 where
 -- how far behind the first wrong token, the first of ts, the cursor of number c stands: one past a literal that overflows, one past a Comma that is eaten
 unfoldable pub past : ℕ → List Token → ℕ
 past c ts =
-    cond (eqb c 4) (cond (eqb (tokenAt ts 0 .kind) Literal) 1 0) (cond (eqb c 8) (cond (eqb (tokenAt ts 0 .kind) Comma) 1 0) 0)
+    cond (eqb c InvalidPush) (cond (eqb (tokenAt ts 0 .kind) Literal) 1 0) (cond (eqb c InvalidArgs) (cond (eqb (tokenAt ts 0 .kind) Comma) 1 0) 0)
 
 -- the numbers that a body can be refused with; 22 only where a rule set forbids that a label's name repeats
 abbrev pub isBodyNumber : Rules → ℕ → Bool

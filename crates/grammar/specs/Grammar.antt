@@ -5,6 +5,7 @@ use mathlib.Core.Bool.{Bool, true, false, cond, not, _&&_}
 use mathlib.Core.List.{List, [], _∷_, _++_, flatten}
 use lib.ListN.{length}
 use lib.Dec.{eqb}
+use Rattle.tokens.specs.Number.{nameForm, stringForm, literalForm, callLiteralForm, callNameForm, inCalldata, inMemory, inStorage}
 use Rattle.tokens.specs.Token.{Token}
 use Rattle.tokens.specs.Kind.{Calldata, Memory, Storage, OpenParen, CloseParen, OpenBrace, CloseBrace, OpenBracket, CloseBracket, LeftAngle, RightAngle, Comma, Colon, Ident, Label, Literal, Opcode, Str, BuiltinFunction}
 use Rattle.tokens.specs.Push.{isValuePush, fits}
@@ -30,7 +31,7 @@ pub data Separated (U : ℕ → List Token → Argument → Type 0) : ℕ → Li
 
 -- "the count of names before it since the opening or the last Comma": strings and literals neither count nor start anew
 abbrev pub counts : ℕ → Entry → ℕ
-counts n e = cond (e .comma) 0 (cond (eqb (e .argument .form) 1) (suc n) n)
+counts n e = cond (e .comma) 0 (cond (eqb (e .argument .form) nameForm) (suc n) n)
 
 -- a list of arguments with commas: U is handed the count of names
 abbrev pub Entries : (ℕ → ℕ → List Token → Argument → Type 0) → ℕ → List Token → List Entry → Type 0
@@ -45,9 +46,9 @@ pub data Closed (U : ℕ → ℕ → List Token → Argument → Type 0) : ℕ �
 
 -- "Call list: Literal, Ident, Calldata or `<` Ident `>`"
 pub data CallArgument (n : ℕ) : ℕ → List Token → Argument → Type 0 where
-  callLiteral : {p : ℕ} (t : Token) → t .kind ≡ Literal → CallArgument n p (t ∷ []) (oneToken 4 p)
-  callName : {p : ℕ} (t : Token) → t .kind ≡ Ident → CallArgument n p (t ∷ []) (oneToken 5 p)
-  callCalldata : {p : ℕ} (t : Token) → t .kind ≡ Calldata → CallArgument n p (t ∷ []) (oneToken 5 p)
+  callLiteral : {p : ℕ} (t : Token) → t .kind ≡ Literal → CallArgument n p (t ∷ []) (oneToken callLiteralForm p)
+  callName : {p : ℕ} (t : Token) → t .kind ≡ Ident → CallArgument n p (t ∷ []) (oneToken callNameForm p)
+  callCalldata : {p : ℕ} (t : Token) → t .kind ≡ Calldata → CallArgument n p (t ∷ []) (oneToken callNameForm p)
   callAngled : {p : ℕ} (l i r : Token)
       → l .kind ≡ LeftAngle
       → i .kind ≡ Ident
@@ -56,9 +57,9 @@ pub data CallArgument (n : ℕ) : ℕ → List Token → Argument → Type 0 whe
 
 -- the kinds of a location, and its number in an argument's record
 pub data Location (kind : ℕ) : ℕ → Type 0 where
-  calldata : kind ≡ Calldata → Location kind 1
-  memory : kind ≡ Memory → Location kind 2
-  storage : kind ≡ Storage → Location kind 3
+  calldata : kind ≡ Calldata → Location kind inCalldata
+  memory : kind ≡ Memory → Location kind inMemory
+  storage : kind ≡ Storage → Location kind inStorage
 
 -- an odd count
 abbrev pub odd : ℕ → Bool
@@ -70,7 +71,7 @@ allowed n t = not (odd n && reserved (t .text))
 
 -- an untyped name, "an optional location then Ident", with n names before it
 pub data NameArgument (n : ℕ) : ℕ → List Token → Argument → Type 0 where
-  bare : {p : ℕ} (t : Token) → t .kind ≡ Ident → allowed n t ≡ true → NameArgument n p (t ∷ []) (oneToken 1 p)
+  bare : {p : ℕ} (t : Token) → t .kind ≡ Ident → allowed n t ≡ true → NameArgument n p (t ∷ []) (oneToken nameForm p)
   placed : {p l : ℕ} (k t : Token)
       → Location (k .kind) l
       → t .kind ≡ Ident
@@ -79,8 +80,8 @@ pub data NameArgument (n : ℕ) : ℕ → List Token → Argument → Type 0 whe
 
 -- "Builtin list: Str, Literal or an optional location then Ident"
 pub data BuiltinArgument (n : ℕ) : ℕ → List Token → Argument → Type 0 where
-  builtinString : {p : ℕ} (t : Token) → t .kind ≡ Str → BuiltinArgument n p (t ∷ []) (oneToken 2 p)
-  builtinLiteral : {p : ℕ} (t : Token) → t .kind ≡ Literal → BuiltinArgument n p (t ∷ []) (oneToken 3 p)
+  builtinString : {p : ℕ} (t : Token) → t .kind ≡ Str → BuiltinArgument n p (t ∷ []) (oneToken stringForm p)
+  builtinLiteral : {p : ℕ} (t : Token) → t .kind ≡ Literal → BuiltinArgument n p (t ∷ []) (oneToken literalForm p)
   builtinName : {p : ℕ} {xs : List Token} {a : Argument} → NameArgument n p xs a → BuiltinArgument n p xs a
 
 -- an item, where `takes` says whether a value push takes its literal here: always in the macro part ("value push, then Literal that fits (two

@@ -1,6 +1,6 @@
--- What a reader of the tables relies on, for bodies: each word of each statement and argument record, said by the kinds of the tokens at its places. No
--- reading and no parser stands here. Where a family is over numbers of records, `i n` are n statement records from number i on and `a m` are m argument
--- records from number a on; `p q` is the range of tokens from place p up to q.
+-- What a reader of the tables relies on, for bodies: each word of each statement and argument record of an accepted call, said by the kinds of the tokens at its
+-- places. No reading and no parser stands here, and which bodies are accepted is not said here (Grammar does). Where a family is over numbers of records, `i n`
+-- are n statement records from number i on and `a m` are m argument records from number a on; `p q` is the range of tokens from place p up to q.
 use Prim.Native.Nat.{ℕ, zero, suc, _+_, _*_, _<_}
 use mathlib.Core.Path.{_≡_}
 use mathlib.Core.Logic.{_≢_}
@@ -64,6 +64,14 @@ pub data ListTable (One : ℕ → ℕ → List ℕ → Type 0) (kept : List Toke
       → ListTable One kept arguments (suc a) m (suc e) q
       → ListTable One kept arguments a (suc m) p q
 
+-- a list of arguments in parentheses: `a m p q`
+pub data ParenTable (One : ℕ → ℕ → List ℕ → Type 0) (kept : List Token) (arguments : List ℕ) : ℕ → ℕ → ℕ → ℕ → Type 0 where
+  parenTable : {a m p q : ℕ}
+      → Stands kept p OpenParen
+      → ListTable One kept arguments a m (suc p) q
+      → Stands kept q CloseParen
+      → ParenTable One kept arguments a m p (suc q)
+
 -- ---- statements: type, first, end, first inner, inner count, first argument, arguments, place
 
 -- a statement that is no label, with m argument records from number a on and the range p q; behind these its type and the place of its name or value
@@ -76,10 +84,8 @@ pub data StatementAt (kept : List Token) (arguments : List ℕ) (a : ℕ) : ℕ 
       → StatementAt kept arguments a 0 p (suc p) labelCallType p
   invocationAt : {m p q : ℕ}
       → Stands kept p Ident
-      → Stands kept (suc p) OpenParen
-      → ListTable (CallWords kept) kept arguments a m (suc (suc p)) q
-      → Stands kept q CloseParen
-      → StatementAt kept arguments a m p (suc q) invocationType p
+      → ParenTable (CallWords kept) kept arguments a m (suc p) q
+      → StatementAt kept arguments a m p q invocationType p
   constantAt : {p : ℕ}
       → Stands kept p OpenBracket
       → Stands kept (suc p) Ident
@@ -92,10 +98,8 @@ pub data StatementAt (kept : List Token) (arguments : List ℕ) (a : ℕ) : ℕ 
       → StatementAt kept arguments a 0 p (suc (suc (suc p))) argumentCallType (suc p)
   builtinAt : {m p q : ℕ}
       → Stands kept p BuiltinFunction
-      → Stands kept (suc p) OpenParen
-      → ListTable (BuiltinWords kept) kept arguments a m (suc (suc p)) q
-      → Stands kept q CloseParen
-      → StatementAt kept arguments a m p (suc q) builtinType p
+      → ParenTable (BuiltinWords kept) kept arguments a m (suc p) q
+      → StatementAt kept arguments a m p q builtinType p
 
 -- statements that are no labels, one behind the other: `i n a m p q`
 pub data StatementTable (kept : List Token) (statements arguments : List ℕ) : ℕ → ℕ → ℕ → ℕ → ℕ → ℕ → Type 0 where
@@ -144,11 +148,12 @@ endWord = statementWord 2
 abbrev pub innerWord : List ℕ → ℕ → ℕ
 innerWord = statementWord 4
 
--- n records from number i on, none of them a label: their ranges run from place p to q, each from where the one before it ends, none empty
+-- n records from number i on, none of them a label or with inner ones: their ranges run from place p to q, each from where the one before it ends, none empty
 abbrev pub Flat : List ℕ → ℕ → ℕ → ℕ → ℕ → Type 0
 Flat statements i zero p q = p ≡ q
 Flat statements i (suc n) p q =
     (typeWord statements i ≢ labelType)
+    × (innerWord statements i ≡ 0)
     × (firstWord statements i ≡ p)
     × (p < endWord statements i)
     × Flat statements (suc i) n (endWord statements i) q

@@ -23,11 +23,11 @@ use Rattle.grammar.specs.Reader.{bodyAt}
 use Rattle.grammar.specs.Facts.{All}
 use Rattle.grammar.specs.Follows.{Follows, FirstWrong, past}
 use Rattle.grammar.specs.Records.{statementRecords, argumentRecords, statementCount, argumentCount}
-use Rattle.grammar.specs.Call.{refusal, bodyNumbers, afterDoor, recordsOf, filled, heldAfter}
+use Rattle.grammar.specs.Call.{ReadingNumber, refusal, bodyNumbers, afterDoor, recordsOf, filled, heldAfter}
 use Rattle.grammar.specs.Tables.{BodyTable, Walk}
 use Rattle.grammar.specs.Cases.{Outcome, Row, outcome, braced, rows}
 use Rattle.grammar.proofs.Lists.{agree-less, all-map, all-mapped, agree-length}
-use Rattle.grammar.proofs.Numbers.{Ours, body-ours, held-refused}
+use Rattle.grammar.proofs.Numbers.{body-ours, held-refused}
 use Rattle.grammar.proofs.Demand.{body-exactly, cursor, same-refusal}
 use Rattle.grammar.proofs.Recorded.{as-many, as-wide}
 use Rattle.grammar.proofs.Tabled.{stored-filled, body-tabled, body-walked}
@@ -118,7 +118,7 @@ module _ {text words : List ℕ} {start : ℕ} {kept statements arguments : List
     pub through : LetThrough text words start (length kept) (length (keptOf words))
     pub reads : readingAt text words start ≡ refused c q
 
-  pub refused-there : (c q : ℕ) → values r ≡ refusal c q → Ours c → RefusedThere c q
+  pub refused-there : (c q : ℕ) → values r ≡ refusal c q → ReadingNumber c → RefusedThere c q
   refused-there c q is ours =
       let e = entered (rw is (ours .1)) in
       record { through = e .0; reads = go (afterReading (readingAt text words start) start (length statements) (length arguments)) (sym is ∙ e .1) (from start (length statements) (length arguments) (readingAt text words start)) }
@@ -155,7 +155,7 @@ module _ {text words : List ℕ} {start : ℕ} {kept statements arguments : List
   -- ---- the cursor
 
   -- refused with a number of the reading: there is a first token that the rules don't allow, and the cursor is it or one past it
-  pub call-cursor : (c q : ℕ) → values r ≡ refusal c q → Ours c → (w : ℕ) × FirstWrong base tokens start w × (q ≡ w + past c (drop w tokens))
+  pub call-cursor : (c q : ℕ) → values r ≡ refusal c q → ReadingNumber c → (w : ℕ) × FirstWrong base tokens start w × (q ≡ w + past c (drop w tokens))
   call-cursor c q is ours =
       let there = refused-there c q is ours in
       cursor base tokens start c q (omega (arith, there .through .inside, view-length text words (keptOf words))) (there .reads)
@@ -166,7 +166,7 @@ module _ {text words : List ℕ} {start : ℕ} {kept statements arguments : List
     {text₂ words₂ kept₂ statements₂ arguments₂ : List ℕ} {r₂ : Body} {kept₂′ statements₂′ arguments₂′ : List ℕ} where
   pub call-same-refusal : (c q : ℕ)
       → BodyCall text words start kept statements arguments r kept′ statements′ arguments′
-      → values r ≡ refusal c q → Ours c
+      → values r ≡ refusal c q → ReadingNumber c
       → WellFormed text₂ words₂ → length (keptOf words₂) ≤ length kept₂
       → take (suc q) (keptTokens text words) ≡ take (suc q) (keptTokens text₂ words₂)
       → BodyCall text₂ words₂ start kept₂ statements₂ arguments₂ r₂ kept₂′ statements₂′ arguments₂′

@@ -1,5 +1,5 @@
 -- The promise of `read_body`: document 01's answer, and what every lent thing holds afterwards.
-use Prim.Native.Nat.{ℕ, _/_, _<_}
+use Prim.Native.Nat.{ℕ, _/_}
 use mathlib.Core.Path.{_≡_}
 use mathlib.Core.Bool.{cond}
 use mathlib.Core.List.{List, [], _∷_}
@@ -7,15 +7,14 @@ use lib.ListN.{length, getD}
 use lib.Dec.{ltb}
 use Rattle.tokens.specs.Number as number
 use Rattle.tokens.specs.Number.{statementWidth, argumentWidth}
-use Rattle.tokens.specs.Token.{view}
-use Rattle.tokens.specs.Kept.{keptOf}
+use Rattle.tokens.specs.Kept.{keptTokens}
 use Rattle.tokens.specs.Door.{door, keptAfter}
 use Rattle.grammar.specs.Reading.{Reading}
 use Rattle.grammar.specs.Result.{Answer, read, refused}
 use Rattle.grammar.specs.Rules.{base}
 use Rattle.grammar.specs.Reader.{bodyAt}
 use Rattle.grammar.specs.Records.{statementRecords, argumentRecords, statementCount, argumentCount}
-use Rattle.grammar.specs.Call.{refusal, bodyNumbers, afterDoor, recordsOf, heldAfter}
+use Rattle.grammar.specs.Call.{ReadingNumber, refusal, bodyNumbers, afterDoor, recordsOf, heldAfter}
 use Rattle.statements.specs.declared.entry.Body.{Body}
 use Rattle.statements.specs.declared.entry.Body.the-variants.{NotWellFormed, KeptTooShort, StartOutside, Refused, StatementsTooSmall, ArgumentsTooSmall, Read}
 
@@ -33,26 +32,26 @@ values (Read cursor statements arguments size) = 0 ∷ cursor ∷ statements ∷
 abbrev pub numberOf : Body → ℕ
 numberOf r = getD (values r) 0 0
 
--- `Refused` is for the reading's own numbers, which lie below the others: so the five numbers tell the answer
+-- `Refused` is for the reading's own numbers, and no other answer has one of these: so the five numbers tell the answer
 abbrev pub Own : Body → Type 0
 Own (NotWellFormed at) = Unit {0}
 Own (KeptTooShort count) = Unit {0}
 Own (StartOutside at) = Unit {0}
-Own (Refused c q) = (0 < c) × (c < number.NotWellFormed)
+Own (Refused c q) = ReadingNumber c
 Own (StatementsTooSmall need) = Unit {0}
 Own (ArgumentsTooSmall need) = Unit {0}
 Own (Read cursor statements arguments size) = Unit {0}
 
--- the first of 1 to 13 in reading order; for an accepted body 33 and 34, if a table's whole records are fewer than needed
+-- the first of 1 to 13 in reading order; for an accepted body 33, else 34, if a table's whole records are fewer than needed
 unfoldable pub afterReading : Answer Reading → ℕ → ℕ → ℕ → List ℕ
 afterReading (refused c q) start statements arguments = bodyNumbers start (refused c q)
 afterReading (read r n) start statements arguments =
     cond (ltb (statements / statementWidth) (statementCount r)) (refusal number.StatementsTooSmall (statementCount r))
     (cond (ltb (arguments / argumentWidth) (argumentCount r)) (refusal number.ArgumentsTooSmall (argumentCount r)) (bodyNumbers start (read r n)))
 
--- the reading of the view from a start
+-- what the reader answers for the kept tokens from a start
 abbrev pub readingAt : List ℕ → List ℕ → ℕ → Answer Reading
-readingAt text words start = bodyAt base (view text words (keptOf words)) start
+readingAt text words start = bodyAt base (keptTokens text words) start
 
 -- 30, 35, 31, then the reading
 abbrev pub bodyAnswered : List ℕ → List ℕ → ℕ → ℕ → ℕ → ℕ → List ℕ

@@ -4,7 +4,7 @@ use mathlib.Core.Bool.{Bool, true, false, _||_}
 use mathlib.Core.List.{List, [], _∷_}
 use lib.Dec.{eqb}
 use Rattle.tokens.specs.Kind.{Whitespace, Comment}
-use Rattle.tokens.specs.Token.{tokenCount, kindOf}
+use Rattle.tokens.specs.Token.{Token, tokenCount, kindOf, view}
 
 -- the kinds that are dropped
 unfoldable pub dropped : ℕ → Bool
@@ -23,3 +23,7 @@ keptFrom words (suc left) i = keepUnless (dropped (kindOf words i)) i (keptFrom 
 -- what the kept list receives
 unfoldable pub keptOf : List ℕ → List ℕ
 keptOf words = keptFrom words (tokenCount words) 0
+
+-- the kept tokens, as the grammar sees them
+abbrev pub keptTokens : List ℕ → List ℕ → List Token
+keptTokens text words = view text words (keptOf words)

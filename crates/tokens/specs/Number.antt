@@ -1,4 +1,5 @@
--- Document 01's numbers by name, but for the kinds of a token (Kind): refusals, the widths of records, and limits.
+-- Document 01's numbers by name, and 22 of its change requests, but for the kinds of a token (Kind): refusals, the widths of records, what stands in their words,
+-- and limits.
 use Prim.Native.Nat.{ℕ}
 
 -- ---- "Refusal numbers"
