@@ -1,13 +1,14 @@
--- Demand 3, about `read_body`'s own promise: for a well-formed list, a start inside it and room, a body is accepted exactly if some stretch from its start
+-- Demand 3, about `read_body`'s own promise: for a well-formed list and room, a body is accepted exactly if some stretch from its start
 -- follows the grammar; that stretch and its reading are the only ones; the records are that reading, and their ranges cover its tokens. Assumes nothing.
 use Prim.Native.Nat.{ℕ, suc, _+_, _-_, _/_, _≤_, _<_}
 use native.Mathlib.Omega.{arith}
 use mathlib.Core.Path.{_≡_, ap}
 use mathlib.Core.Logic.{_↔_}
 use mathlib.Core.List.{List}
-use lib.ListN.{length, getD}
+use lib.ListN.{length, getD, take, drop, length-drop}
+use lib.Seq.{length-take-le}
 use Rattle.tokens.specs.Number.{statementWidth, argumentWidth}
-use Rattle.tokens.specs.Kept.{keptOf}
+use Rattle.tokens.specs.Kept.{keptOf, keptTokens}
 use Rattle.tokens.specs.WellFormed.{WellFormed}
 use Rattle.tokens.proofs.TokenLaws.{view-length}
 use Rattle.grammar.specs.Reading.{Reading}
@@ -19,20 +20,14 @@ use Rattle.grammar.specs.PlainLength.{plainLength}
 use Rattle.grammar.specs.Call.{bodyNumbers, recordsOf}
 use Rattle.grammar.specs.Cases.{outcome}
 use Rattle.grammar.specs.Tables.{Walk}
-use Rattle.grammar.proofs.Demand.{body-exactly, only-one}
+use Rattle.grammar.proofs.Demand.{body-exactly, body-some, only-one}
 use Rattle.grammar.proofs.Recorded.{as-many}
 use Rattle.statements.specs.declared.entry.Body.{Body}
 use Rattle.statements.specs.Call.{values, numberOf, readingAt, BodyCall}
 use Rattle.statements.proofs.Bounds.{follows-fits}
-use Rattle.statements.proofs.Called.{keptTokens, Holding, accepted, with-room, call-ranges}
-
--- the tables' whole records are enough for a reading's
-pub record Room (statements arguments : List ℕ) (rd : Reading) : Type 0 where
-  pub forStatements : statementCount rd ≤ length statements / statementWidth
-  pub forArguments : argumentCount rd ≤ length arguments / argumentWidth
+use Rattle.statements.proofs.Called.{Room, Holding, accepted, with-room, call-ranges}
 
 module _ {text words : List ℕ} {start : ℕ} {kept statements arguments : List ℕ} {r : Body} {kept′ statements′ arguments′ : List ℕ}
-    (formed : WellFormed text words) (inside : start < length (keptOf words)) (kept-room : length (keptOf words) ≤ length kept)
     (call : BodyCall text words start kept statements arguments r kept′ statements′ arguments′) where
   -- the n tokens from the start follow the grammar and read rd
   abbrev pub Stretch : ℕ → Reading → Type 0
@@ -45,34 +40,39 @@ module _ {text words : List ℕ} {start : ℕ} {kept statements arguments : List
     pub holds : Holding call n rd
     pub covers : Walk statements′ 0 (suc start) (statementCount rd) (start + n - 1)
 
-  -- a stretch with room for its reading's records
-  pub the-one : (n : ℕ) (rd : Reading) → Stretch n rd → Room statements arguments rd → TheOne n rd
-  the-one n rd f room =
+  -- a stretch, where the list is well formed, the kept list long enough, and there is room for the reading's records
+  pub the-one : WellFormed text words → length (keptOf words) ≤ length kept
+      → (n : ℕ) (rd : Reading) → Stretch n rd → Room statements arguments rd
+      → TheOne n rd
+  the-one formed enough n rd f room =
       let e : readingAt text words start ≡ read rd n = body-exactly base (keptTokens text words) start n rd .1 f in
       let many = as-many 0 0 rd in
-      let told = with-room formed inside kept-room (outcome start (read rd n)) (ap (outcome start) e) (rw (many .0) (room .forStatements)) (rw (many .1) (room .forArguments)) call in
+      let some = body-some base start (take n (drop start (keptTokens text words))) rd (f .1) in
+      let inside : start < length (keptOf words) = omega (arith, f .0, some, length-take-le n (drop start (keptTokens text words)) (omega (arith, length-drop start (keptTokens text words), f .0)), view-length text words (keptOf words)) in
+      let told = with-room formed inside enough (outcome start (read rd n)) (ap (outcome start) e) (rw (many .0) (room .forStatements)) (rw (many .1) (room .forArguments)) call in
       record {
         only = λ n′ rd′ f′. only-one base (keptTokens text words) start n n′ rd rd′ f f′;
         holds = record { answer = told .answer; statementsHold = told .statementsHold; argumentsHold = told .argumentsHold };
         covers = call-ranges call (start + n) (statementCount rd) (argumentCount rd) (plainLength rd) (told .answer);
       }
 
-  -- accepted exactly if some stretch follows the grammar and the tables have room for its reading's records
-  pub accepted-exactly : (numberOf r ≡ 0) ↔ ((n : ℕ) × (rd : Reading) × Stretch n rd × Room statements arguments rd)
+  -- accepted exactly if the list is well formed, the kept list long enough, some stretch follows the grammar, and the tables have room for its reading's records
+  pub accepted-exactly : (numberOf r ≡ 0) ↔ (WellFormed text words × (length (keptOf words) ≤ length kept) × ((n : ℕ) × (rd : Reading) × Stretch n rd × Room statements arguments rd))
   accepted-exactly = (
-    (λ z. let a = accepted call z in (a .n, a .rd, a .follows, record { forStatements = a .statementRoom; forArguments = a .argumentRoom })),
-    (λ f. ap (λ (v : List ℕ). getD v 0 0) (the-one (f .0) (f .1) (f .2) (f .3) .holds .answer)),
+    (λ z. let a = accepted call z in (a .through .formed, a .through .room-enough, (a .n, a .rd, a .follows, a .room))),
+    (λ f. ap (λ (v : List ℕ). getD v 0 0) (the-one (f .0) (f .1) (f .2 .0) (f .2 .1) (f .2 .2) (f .2 .3) .holds .answer)),
   )
 
-  -- demand 3, where the tables have room for what is read: accepted exactly if some stretch follows the grammar; and then it is the one
-  pub demand-3 : ((n : ℕ) (rd : Reading) → Stretch n rd → Room statements arguments rd)
+  -- demand 3, for a well-formed list, with room for the kept tokens and for what is read: accepted exactly if some stretch follows the grammar; and then it is the one
+  pub demand-3 : WellFormed text words → length (keptOf words) ≤ length kept
+      → ((n : ℕ) (rd : Reading) → Stretch n rd → Room statements arguments rd)
       → ((numberOf r ≡ 0) ↔ ((n : ℕ) × (rd : Reading) × Stretch n rd)) × ((n : ℕ) (rd : Reading) → Stretch n rd → TheOne n rd)
-  demand-3 room = (
+  demand-3 formed enough room = (
     (
-      (λ z. let f = accepted-exactly .0 z in (f .0, f .1, f .2)),
-      (λ f. accepted-exactly .1 (f .0, f .1, f .2, room (f .0) (f .1) (f .2))),
+      (λ z. let f = accepted-exactly .0 z in (f .2 .0, f .2 .1, f .2 .2)),
+      (λ f. accepted-exactly .1 (formed, enough, (f .0, f .1, f .2, room (f .0) (f .1) (f .2)))),
     ),
-    (λ n rd f. the-one n rd f (room n rd f)),
+    (λ n rd f. the-one formed enough n rd f (room n rd f)),
   )
 
   -- a record's room in both tables for each kept token is always enough
