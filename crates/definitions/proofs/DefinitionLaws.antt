@@ -4,7 +4,7 @@ use native.Mathlib.Nat.{add-zero}
 use native.Mathlib.Numerals.{add-one, add-two}
 use native.Mathlib.Omega.{arith}
 use mathlib.Core.Path.{_≡_, refl, sym, ap, _∙_}
-use mathlib.Core.Bool.{Bool, false, cond}
+use mathlib.Core.Bool.{false, cond}
 use mathlib.Core.List.{List, [], _∷_, _++_, map, append-nil, map-append}
 use borrow.Author.Tests.{eq-eqb, ne-eqb}
 use lib.ListN.{length, drop, length-append, length-map}
@@ -28,7 +28,6 @@ use Rattle.lists.specs.declared.list.ArgList.the-variants as lists
 use Rattle.definitions.specs.declared.record.DefRead.{DefRead}
 use Rattle.definitions.specs.declared.record.DefRead.the-variants as defs
 use Rattle.definitions.specs.declared.head.Head.the-variants as heads
-use Rattle.definitions.specs.declared.signature.Signature.{Signature}
 use Rattle.definitions.specs.declared.signature.Behind.{Behind}
 use Rattle.definitions.specs.declared.signature.Behind.the-variants as behinds
 use Rattle.grammar.specs.Written.{RefusedRead}
@@ -37,7 +36,7 @@ use Rattle.definitions.specs.declared.signature.Listed.{Listed}
 use Rattle.definitions.specs.declared.signature.Listed.the-variants.{Event, Error}
 use Rattle.definitions.specs.Answers.{definitionWords, codeDefinition, isNamed, DefParsed, DefAdded}
 use Rattle.definitions.proofs.HeadLaws.{refused-parsed, named-is}
-use Rattle.definitions.specs.Pieces.{Headed, Bodiless, Signed, SignatureRead, listSort, listNumber, listForm, listRest, TypeRead, outputsRest, Outputs, OutputsRead, Fitting, SignatureFits, signatureOf, signatureAnswer}
+use Rattle.definitions.specs.Pieces.{Headed, Bodiless, Signed, SignatureRead, listSort, listNumber, listForm, listRest, TypeRead, outputsRest, Outputs, OutputsRead, SignatureFits, signatureOf, signatureAnswer}
 use Rattle.definitions.specs.declared.constant.ConstVal.{ConstVal}
 use Rattle.definitions.specs.declared.constant.ConstVal.the-variants as constvals
 use Rattle.definitions.specs.declared.constant.ConstantDefinition.{ConstantDefinition}

@@ -5,14 +5,14 @@ use mathlib.Core.Path.{_≡_, refl, sym, ap, _∙_}
 use mathlib.Core.Logic.{_↔_}
 use mathlib.Core.Bool.{Bool, true, false, cond}
 use mathlib.Core.List.{List, [], _∷_}
-use borrow.Author.Tests.{ltb-false, le-ltb, ne-eqb}
+use borrow.Author.Tests.{ltb-true, ltb-false, le-ltb}
 use lib.ListN.{length, getD, take}
 use lib.Dec.{ltb, eqb}
 use Rattle.tokens.specs.Number as number
 use Rattle.tokens.specs.Number.{definitionWidth, statementWidth, argumentWidth}
-use Rattle.tokens.specs.Kind.{Eof}
+use Rattle.tokens.specs.Kind.{Eof, Pound}
 use Rattle.tokens.specs.Token.{Token}
-use Rattle.tokens.specs.Kept.{keptOf}
+use Rattle.tokens.specs.Kept.{keptOf, keptTokens}
 use Rattle.tokens.specs.WellFormed.{WellFormed}
 use Rattle.tokens.specs.Door.{door}
 use Rattle.tokens.proofs.DoorLaws.{kept-not-empty, LetThrough, door-means, let-through}
@@ -22,19 +22,20 @@ use Rattle.grammar.specs.Facts.{All}
 use Rattle.grammar.specs.FileReading.{Definition}
 use Rattle.grammar.specs.FileReader.{fileAt}
 use Rattle.grammar.specs.FileRecords.{definitionRecords, fileStatements, fileArguments, fileArgumentRecords, fileStatementCount}
-use Rattle.grammar.specs.FileFollows.{FollowsFile, RepeatedAt, FirstWrongFile, CursorAt}
+use Rattle.grammar.specs.FileFollows.{FollowsFile, RepeatedAt, Reached, FirstWrongFile, CursorAt}
 use Rattle.grammar.specs.Call.{ReadingNumber, refusal, fileNumbers, recordsOf, filled, heldAfter}
 use Rattle.grammar.specs.Tables.{Stands}
 use Rattle.grammar.specs.FileTables.{FileTable, StatementsOf}
+use Rattle.grammar.specs.Cases.{tokensOf}
 use Rattle.grammar.specs.FileCases.{FileOutcome, FileRow, fileOutcome, ended, fileRows}
 use Rattle.grammar.proofs.Lists.{all-map, all-mapped}
 use Rattle.grammar.proofs.Numbers.{file-ours, held-refused}
-use Rattle.grammar.proofs.FileDemand.{file-exactly, file-cursor, file-repeated, file-same-refusal}
+use Rattle.grammar.proofs.FileDemand.{file-exactly, file-cursor, file-repeated, file-pound, file-same-refusal}
 use Rattle.grammar.proofs.FileRecorded.{file-as-many, file-as-wide}
 use Rattle.grammar.proofs.Tabled.{stored-filled}
 use Rattle.grammar.proofs.FileTabled.{file-tabled, file-walked}
 use Rattle.grammar.proofs.FileCases.{fileOutcomes, file-rows-hold}
-use Rattle.statements.proofs.Called.{keptTokens, open-door}
+use Rattle.statements.proofs.Called.{open-door}
 use Rattle.files.specs.declared.entry.File.{File}
 use Rattle.files.specs.Call.{values, numberOf, afterReading, fileReading, FileCall}
 
@@ -50,10 +51,18 @@ pub record Room (definitions statements arguments : List ℕ) (ds : List Definit
 
 -- ---- from the numbers back to the reading
 
--- what an answer behind the door comes from, by its number
+-- what an answer behind the door comes from: a refusal of the reading, a reading that a table has no room for, a reading with room
 data From (definitions statements arguments : List ℕ) (x : Answer (List Definition)) (v : List ℕ) : Type 0 where
   wasRefused : (c q : ℕ) → x ≡ refused c q → v ≡ refusal c q → From definitions statements arguments x v
-  tooSmall : number.DefinitionsTooSmall ≤ getD v 0 0 → From definitions statements arguments x v
+  noDefinitions : (ds : List Definition) (n : ℕ) → x ≡ read ds n → length definitions / definitionWidth < length ds → v ≡ refusal number.DefinitionsTooSmall (length ds)
+      → From definitions statements arguments x v
+  noStatements : (ds : List Definition) (n : ℕ) → x ≡ read ds n → length ds ≤ length definitions / definitionWidth → length statements / statementWidth < fileStatementCount ds
+      → v ≡ refusal number.StatementsTooSmall (fileStatementCount ds)
+      → From definitions statements arguments x v
+  noArguments : (ds : List Definition) (n : ℕ) → x ≡ read ds n → length ds ≤ length definitions / definitionWidth → fileStatementCount ds ≤ length statements / statementWidth
+      → length arguments / argumentWidth < length (fileArguments ds)
+      → v ≡ refusal number.ArgumentsTooSmall (length (fileArguments ds))
+      → From definitions statements arguments x v
   wasRead : (ds : List Definition) (n : ℕ) → x ≡ read ds n → Room definitions statements arguments ds → v ≡ fileNumbers (read ds n) → From definitions statements arguments x v
 
 from : (definitions statements arguments : List ℕ) (x : Answer (List Definition)) → From definitions statements arguments x (afterReading x (length definitions) (length statements) (length arguments))
@@ -69,9 +78,9 @@ from definitions statements arguments (read ds n) =
         (cond b (refusal number.DefinitionsTooSmall (length ds))
         (cond d (refusal number.StatementsTooSmall (fileStatementCount ds))
         (cond g (refusal number.ArgumentsTooSmall (length (fileArguments ds))) (fileNumbers (read ds n)))))
-    go true eb d ed g eg = tooSmall (omega arith)
-    go false eb true ed g eg = tooSmall (omega arith)
-    go false eb false ed true eg = tooSmall (omega arith)
+    go true eb d ed g eg = noDefinitions ds n refl (ltb-true _ _ eb) refl
+    go false eb true ed g eg = noStatements ds n refl (ltb-false _ _ eb) (ltb-true _ _ ed) refl
+    go false eb false ed true eg = noArguments ds n refl (ltb-false _ _ eb) (ltb-false _ _ ed) (ltb-true _ _ eg) refl
     go false eb false ed false eg = wasRead ds n refl (record { forDefinitions = ltb-false _ _ eb; forStatements = ltb-false _ _ ed; forArguments = ltb-false _ _ eg }) refl
 
 module _ {text words kept definitions statements arguments : List ℕ} {r : File} {kept′ definitions′ statements′ arguments′ : List ℕ}
@@ -79,12 +88,13 @@ module _ {text words kept definitions statements arguments : List ℕ} {r : File
   abbrev tokens : List Token
   tokens = keptTokens text words
 
-  -- let through at the door, and the answer behind it
-  entered : numberOf r < number.NotWellFormed
-      → LetThrough text words 0 (length kept) (length (keptOf words)) × (values r ≡ afterReading (fileReading text words) (length definitions) (length statements) (length arguments))
-  entered h =
-      let o = open-door (afterReading (fileReading text words) (length definitions) (length statements) (length arguments)) (door text words 0 (length kept)) (door-means text words 0 (length kept)) (rw (← call .answer) h) in
-      (o .0, call .answer ∙ o .1)
+  -- let through at the door, and what the answer behind it comes from
+  comes : (c : ℕ) → numberOf r ≡ c → (c ≡ number.NotWellFormed → ⊥) → (c ≡ number.KeptTooShort → ⊥) → (c ≡ number.StartOutside → ⊥)
+      → LetThrough text words 0 (length kept) (length (keptOf words)) × From definitions statements arguments (fileReading text words) (values r)
+  comes c e x y z =
+      let o = open-door (afterReading (fileReading text words) (length definitions) (length statements) (length arguments)) (door text words 0 (length kept)) (door-means text words 0 (length kept))
+      (ap (λ (v : List ℕ). getD v 0 0) (sym (call .answer)) ∙ e) x y z in
+      (o .0, rw (call .answer ∙ o .1) (from definitions statements arguments (fileReading text words)))
 
   -- the answer and the tables are those of the reading ds, and Eof stands at n
   pub record Holding (n : ℕ) (ds : List Definition) : Type 0 where
@@ -98,8 +108,9 @@ module _ {text words kept definitions statements arguments : List ℕ} {r : File
   holding n ds e is =
       record { answer = is; definitionsHold = call .definitionsHold ∙ rw (e, is); statementsHold = call .statementsHold ∙ rw (e, is); argumentsHold = call .argumentsHold ∙ rw (e, is) }
 
-  -- an accepted call has read a file that follows the grammar, and the tables had room for its records
+  -- an accepted call was let through at the door and has read a file that follows the grammar, and the tables had room for its records
   pub record Accepted : Type 0 where
+    pub through : LetThrough text words 0 (length kept) (length (keptOf words))
     pub n : ℕ
     pub ds : List Definition
     pub follows : IsFile text words n ds
@@ -107,16 +118,14 @@ module _ {text words kept definitions statements arguments : List ℕ} {r : File
     pub holds : Holding n ds
 
   pub accepted : numberOf r ≡ 0 → Accepted
-  accepted z =
-      let e = entered (omega arith) in
-      go (afterReading (fileReading text words) (length definitions) (length statements) (length arguments)) (e .1) (from definitions statements arguments (fileReading text words))
+  accepted z = let o = comes 0 z (λ e. omega arith) (λ e. omega arith) (λ e. omega arith) in go (o .0) (o .1)
     where
-      go : (v : List ℕ) → values r ≡ v → From definitions statements arguments (fileReading text words) v → Accepted
-      go v is (wasRefused c q e f) =
-          let no : c ≡ 0 = ap (λ (w : List ℕ). getD w 0 0) (sym f ∙ sym is) ∙ z in
-          absurd (omega (arith, file-ours base true tokens c q e .0))
-      go v is (tooSmall h) = absurd (omega (arith, h, ap (λ (w : List ℕ). getD w 0 0) is))
-      go v is (wasRead ds n e room f) = record { n = n; ds = ds; follows = file-exactly base true tokens n ds .0 e; room = room; holds = holding n ds e (is ∙ f) }
+      go : LetThrough text words 0 (length kept) (length (keptOf words)) → From definitions statements arguments (fileReading text words) (values r) → Accepted
+      go l (wasRefused c q e f) = absurd (omega (arith, file-ours base true tokens c q e .0, sym (ap (λ (w : List ℕ). getD w 0 0) f) ∙ z))
+      go l (noDefinitions ds n e h f) = absurd (omega (arith, sym (ap (λ (w : List ℕ). getD w 0 0) f) ∙ z))
+      go l (noStatements ds n e h k f) = absurd (omega (arith, sym (ap (λ (w : List ℕ). getD w 0 0) f) ∙ z))
+      go l (noArguments ds n e h k g f) = absurd (omega (arith, sym (ap (λ (w : List ℕ). getD w 0 0) f) ∙ z))
+      go l (wasRead ds n e room f) = record { through = l; n = n; ds = ds; follows = file-exactly base true tokens n ds .0 e; room = room; holds = holding n ds e f }
 
   -- refused by the reading: the door let the call through, and the reader gives this number and cursor
   pub record RefusedThere (c q : ℕ) : Type 0 where
@@ -125,16 +134,57 @@ module _ {text words kept definitions statements arguments : List ℕ} {r : File
 
   pub refused-there : (c q : ℕ) → values r ≡ refusal c q → ReadingNumber c → RefusedThere c q
   refused-there c q is ours =
-      let e = entered (rw is (ours .1)) in
-      record { through = e .0; reads = go (afterReading (fileReading text words) (length definitions) (length statements) (length arguments)) (sym is ∙ e .1) (from definitions statements arguments (fileReading text words)) }
+      let o = comes c (ap (λ (v : List ℕ). getD v 0 0) is) (λ e. omega (arith, ours .1)) (λ e. omega (arith, ours .1)) (λ e. omega (arith, ours .1)) in
+      record { through = o .0; reads = go (o .1) }
     where
-      go : (v : List ℕ) → refusal c q ≡ v → From definitions statements arguments (fileReading text words) v → fileReading text words ≡ refused c q
-      go v f (wasRefused d p e g) =
-          let k : c ≡ d = ap (λ (w : List ℕ). getD w 0 0) (f ∙ g) in
-          let l : q ≡ p = ap (λ (w : List ℕ). getD w 1 0) (f ∙ g) in
+      go : From definitions statements arguments (fileReading text words) (values r) → fileReading text words ≡ refused c q
+      go (wasRefused d p e f) =
+          let k : c ≡ d = ap (λ (w : List ℕ). getD w 0 0) (sym is ∙ f) in
+          let l : q ≡ p = ap (λ (w : List ℕ). getD w 1 0) (sym is ∙ f) in
           rw (k, l) e
-      go v f (tooSmall h) = absurd (omega (arith, h, ap (λ (w : List ℕ). getD w 0 0) f, ours .1))
-      go v f (wasRead ds n e room g) = absurd (omega (arith, ap (λ (w : List ℕ). getD w 0 0) (f ∙ g), ours .0))
+      go (noDefinitions ds n e h f) = absurd (omega (arith, ap (λ (w : List ℕ). getD w 0 0) (sym is ∙ f), ours .1))
+      go (noStatements ds n e h k f) = absurd (omega (arith, ap (λ (w : List ℕ). getD w 0 0) (sym is ∙ f), ours .1))
+      go (noArguments ds n e h k g f) = absurd (omega (arith, ap (λ (w : List ℕ). getD w 0 0) (sym is ∙ f), ours .1))
+      go (wasRead ds n e room f) = absurd (omega (arith, ap (λ (w : List ℕ). getD w 0 0) (sym is ∙ f), ours .0))
+
+  -- ---- 32, 33 and 34: only for a file that is accepted otherwise, and where a table's whole records are fewer than needed; the cursor is the need
+
+  -- a file that is accepted but for its room, with this need
+  abbrev Needs : (List Definition → Type 0) → Type 0
+  Needs What = (n : ℕ) × (ds : List Definition) × IsFile text words n ds × What ds
+
+  pub file-call-32 : (k : ℕ) → values r ≡ refusal number.DefinitionsTooSmall k → Needs (λ ds. (k ≡ length ds) × (length definitions / definitionWidth < k))
+  file-call-32 k is = go (comes number.DefinitionsTooSmall (ap (λ (v : List ℕ). getD v 0 0) is) (λ e. omega arith) (λ e. omega arith) (λ e. omega arith) .1)
+    where
+      go : From definitions statements arguments (fileReading text words) (values r) → Needs (λ ds. (k ≡ length ds) × (length definitions / definitionWidth < k))
+      go (wasRefused c q e f) = absurd (omega (arith, ap (λ (w : List ℕ). getD w 0 0) (sym is ∙ f), file-ours base true tokens c q e .1))
+      go (noDefinitions ds n e h f) = let need : k ≡ length ds = ap (λ (w : List ℕ). getD w 1 0) (sym is ∙ f) in (n, ds, file-exactly base true tokens n ds .0 e, (need, rw need h))
+      go (noStatements ds n e h l f) = absurd (omega (arith, ap (λ (w : List ℕ). getD w 0 0) (sym is ∙ f)))
+      go (noArguments ds n e h l g f) = absurd (omega (arith, ap (λ (w : List ℕ). getD w 0 0) (sym is ∙ f)))
+      go (wasRead ds n e room f) = absurd (omega (arith, ap (λ (w : List ℕ). getD w 0 0) (sym is ∙ f)))
+
+  pub file-call-33 : (k : ℕ) → values r ≡ refusal number.StatementsTooSmall k
+      → Needs (λ ds. (length ds ≤ length definitions / definitionWidth) × (k ≡ fileStatementCount ds) × (length statements / statementWidth < k))
+  file-call-33 k is = go (comes number.StatementsTooSmall (ap (λ (v : List ℕ). getD v 0 0) is) (λ e. omega arith) (λ e. omega arith) (λ e. omega arith) .1)
+    where
+      go : From definitions statements arguments (fileReading text words) (values r) → Needs (λ ds. (length ds ≤ length definitions / definitionWidth) × (k ≡ fileStatementCount ds) × (length statements / statementWidth < k))
+      go (wasRefused c q e f) = absurd (omega (arith, ap (λ (w : List ℕ). getD w 0 0) (sym is ∙ f), file-ours base true tokens c q e .1))
+      go (noDefinitions ds n e h f) = absurd (omega (arith, ap (λ (w : List ℕ). getD w 0 0) (sym is ∙ f)))
+      go (noStatements ds n e h l f) = let need : k ≡ fileStatementCount ds = ap (λ (w : List ℕ). getD w 1 0) (sym is ∙ f) in (n, ds, file-exactly base true tokens n ds .0 e, (h, need, rw need l))
+      go (noArguments ds n e h l g f) = absurd (omega (arith, ap (λ (w : List ℕ). getD w 0 0) (sym is ∙ f)))
+      go (wasRead ds n e room f) = absurd (omega (arith, ap (λ (w : List ℕ). getD w 0 0) (sym is ∙ f)))
+
+  pub file-call-34 : (k : ℕ) → values r ≡ refusal number.ArgumentsTooSmall k
+      → Needs (λ ds. (length ds ≤ length definitions / definitionWidth) × (fileStatementCount ds ≤ length statements / statementWidth) × (k ≡ length (fileArguments ds)) × (length arguments / argumentWidth < k))
+  file-call-34 k is = go (comes number.ArgumentsTooSmall (ap (λ (v : List ℕ). getD v 0 0) is) (λ e. omega arith) (λ e. omega arith) (λ e. omega arith) .1)
+    where
+      go : From definitions statements arguments (fileReading text words) (values r)
+          → Needs (λ ds. (length ds ≤ length definitions / definitionWidth) × (fileStatementCount ds ≤ length statements / statementWidth) × (k ≡ length (fileArguments ds)) × (length arguments / argumentWidth < k))
+      go (wasRefused c q e f) = absurd (omega (arith, ap (λ (w : List ℕ). getD w 0 0) (sym is ∙ f), file-ours base true tokens c q e .1))
+      go (noDefinitions ds n e h f) = absurd (omega (arith, ap (λ (w : List ℕ). getD w 0 0) (sym is ∙ f)))
+      go (noStatements ds n e h l f) = absurd (omega (arith, ap (λ (w : List ℕ). getD w 0 0) (sym is ∙ f)))
+      go (noArguments ds n e h l g f) = let need : k ≡ length (fileArguments ds) = ap (λ (w : List ℕ). getD w 1 0) (sym is ∙ f) in (n, ds, file-exactly base true tokens n ds .0 e, (h, l, need, rw need g))
+      go (wasRead ds n e room f) = absurd (omega (arith, ap (λ (w : List ℕ). getD w 0 0) (sym is ∙ f)))
 
   -- ---- the tables
 
@@ -147,18 +197,29 @@ module _ {text words kept definitions statements arguments : List ℕ} {r : File
       (rw (holds .statementsHold) (stored-filled statementWidth (length statements) (fileStatements 0 0 ds) (wide .1)))
       (rw (holds .argumentsHold) (stored-filled argumentWidth (length arguments) (fileArgumentRecords ds) (wide .2)))
 
-  -- each word of each record of an accepted call: the definitions cover the tokens from place 0 to the cursor, and there stands Eof
-  pub file-call-tables : (q k n m : ℕ) → values r ≡ 0 ∷ q ∷ k ∷ n ∷ m ∷ [] → FileTable tokens definitions′ statements′ arguments′ 0 k 0 n 0 m 0 q × Stands tokens q Eof
+  -- each word of each record of an accepted call: the definitions cover the tokens from place 0 to the cursor, and there stands the list's Eof. (That zeros stand
+  -- behind the records, the promise says itself.)
+  pub file-call-tables : (q k n m : ℕ) → values r ≡ 0 ∷ q ∷ k ∷ n ∷ m ∷ []
+      → FileTable tokens definitions′ statements′ arguments′ 0 k 0 n 0 m 0 q × (q < length tokens) × Stands tokens q Eof
   file-call-tables q k n m is =
       let a = accepted (ap (λ (w : List ℕ). getD w 0 0) is) in
       let told = sym (a .holds .answer) ∙ is in
-      let both : FileTable tokens definitions′ statements′ arguments′ 0 (length (a .ds)) 0 (fileStatementCount (a .ds)) 0 (length (fileArguments (a .ds))) 0 (a .n) × Stands tokens (a .n) Eof =
-      (tables-of (a .n) (a .ds) (a .follows) (a .holds), a .follows .1) in
-      rw (ap (λ (w : List ℕ). getD w 1 0) told) at (rw (ap (λ (w : List ℕ). getD w 2 0) told) at (rw (ap (λ (w : List ℕ). getD w 3 0) told) at (rw (ap (λ (w : List ℕ). getD w 4 0) told) at both)))
+      let all : FileTable tokens definitions′ statements′ arguments′ 0 (length (a .ds)) 0 (fileStatementCount (a .ds)) 0 (length (fileArguments (a .ds))) 0 (a .n) × (a .n < length tokens) × Stands tokens (a .n) Eof =
+      (tables-of (a .n) (a .ds) (a .follows) (a .holds), a .follows .0, a .follows .1) in
+      rw (ap (λ (w : List ℕ). getD w 1 0) told) at (rw (ap (λ (w : List ℕ). getD w 2 0) told) at (rw (ap (λ (w : List ℕ). getD w 3 0) told) at (rw (ap (λ (w : List ℕ). getD w 4 0) told) at all)))
 
   -- and the statements of each definition record, by the words alone but for the braces
   pub file-call-ranges : (q k n m : ℕ) → values r ≡ 0 ∷ q ∷ k ∷ n ∷ m ∷ [] → (d : ℕ) → d < k → StatementsOf tokens definitions′ statements′ d
   file-call-ranges q k n m is = file-walked tokens definitions′ statements′ arguments′ k n m q (file-call-tables q k n m is .0)
+
+  -- a number of the reading is given exactly where the reader gives it, behind the door
+  said : (c q : ℕ) → ReadingNumber c → (What : Type 0) → (fileReading text words ≡ refused c q) ↔ What
+      → (values r ≡ refusal c q) ↔ (WellFormed text words × (length (keptOf words) ≤ length kept) × What)
+  unfolding afterReading
+  said c q ours What means = (
+    (λ is. let there = refused-there c q is ours in (there .through .formed, there .through .room-enough, means .0 (there .reads))),
+    (λ w. call .answer ∙ rw (let-through text words 0 (length kept) (w .0) (w .1) (kept-not-empty text words (w .0))) (rw (means .1 (w .2)))),
+  )
 
   -- ---- the cursor
 
@@ -166,12 +227,16 @@ module _ {text words kept definitions statements arguments : List ℕ} {r : File
   pub file-call-cursor : (c q : ℕ) → values r ≡ refusal c q → ReadingNumber c → eqb c number.DuplicateMacro ≡ false → (w : ℕ) × FirstWrongFile base tokens w × CursorAt base tokens c q w
   file-call-cursor c q is ours other = file-cursor base true tokens c q (refused-there c q is ours .reads) other
 
-  -- refused with 20: the cursor is the name of a whole macro, fn or test named like one before it
-  pub file-call-repeated : (q : ℕ) → values r ≡ refusal number.DuplicateMacro q → RepeatedAt base tokens q
-  file-call-repeated q is = file-repeated base tokens q .0 (refused-there number.DuplicateMacro q is (omega arith) .reads)
+  -- 20 is given exactly to a well-formed list, with a kept list long enough, in which a whole macro, fn or test is named like one before it; the cursor is its name
+  pub file-call-repeated : (q : ℕ) → (values r ≡ refusal number.DuplicateMacro q) ↔ (WellFormed text words × (length (keptOf words) ≤ length kept) × RepeatedAt base tokens q)
+  file-call-repeated q = said number.DuplicateMacro q (omega arith) (RepeatedAt base tokens q) (file-repeated base tokens q)
+
+  -- 21 exactly where definitions stand up to a Pound; the cursor is the Pound
+  pub file-call-pound : (q : ℕ) → (values r ≡ refusal number.PoundAtTopLevel q) ↔ (WellFormed text words × (length (keptOf words) ≤ length kept) × Reached base true tokens Pound q)
+  file-call-pound q = said number.PoundAtTopLevel q (omega arith) (Reached base true tokens Pound q) (file-pound base true tokens q)
 
 -- another call, on a well-formed list with a kept list long enough, whose kept tokens are the same from place 0 to the cursor: it is refused alike, and its
--- tables are zero
+-- tables are zero. Not so for 20: a macro's brace, behind its name, has to be read first
 module _ {text words kept definitions statements arguments : List ℕ} {r : File} {kept′ definitions′ statements′ arguments′ : List ℕ}
     {text₂ words₂ kept₂ definitions₂ statements₂ arguments₂ : List ℕ} {r₂ : File} {kept₂′ definitions₂′ statements₂′ arguments₂′ : List ℕ} where
   pub file-call-same-refusal : (c q : ℕ)
@@ -196,7 +261,7 @@ module _ {text words kept definitions statements arguments : List ℕ} {r : File
 
 -- ---- with room
 
--- the answer and the tables are those of a reading, accepted or refused
+-- the answer and the tables are those of an outcome, accepted or refused
 pub record Told (definitions statements arguments : List ℕ) (r : File) (definitions′ statements′ arguments′ : List ℕ) (o : FileOutcome) : Type 0 where
   pub answer : values r ≡ o .answers
   pub definitionsHold : definitions′ ≡ filled (length definitions) (o .definitions)
@@ -240,12 +305,13 @@ with-room {text} {words} {kept} {definitions} {statements} {arguments} {r} {kept
 
 -- ---- the rows of files
 
--- for every well-formed text and words whose kept tokens are the row's, with room, a call leaves the row's numbers and tables
-abbrev pub Answered : FileRow → Type 0
-Answered row =
+-- for every well-formed text and words whose kept tokens are the row's, whatever their texts are where no rule looks at them, with room, a call leaves the row's
+-- numbers and tables
+abbrev pub Answered : (ℕ → List ℕ) → FileRow → Type 0
+Answered texts row =
     (text words kept definitions statements arguments : List ℕ) (r : File) (kept′ definitions′ statements′ arguments′ : List ℕ)
     → WellFormed text words
-    → keptTokens text words ≡ ended (row .input)
+    → keptTokens text words ≡ tokensOf texts 0 (ended (row .input))
     → length (keptOf words) ≤ length kept
     → length (row .outcome .definitions) ≤ length definitions / definitionWidth
     → length (row .outcome .statements) ≤ length statements / statementWidth
@@ -253,12 +319,13 @@ Answered row =
     → FileCall text words kept definitions statements arguments r kept′ definitions′ statements′ arguments′
     → Told definitions statements arguments r definitions′ statements′ arguments′ (row .outcome)
 
-pub file-call-rows : All Answered fileRows
+pub file-call-rows : (texts : ℕ → List ℕ) → All (Answered texts) fileRows
 unfolding fileOutcomes
-file-call-rows =
-    all-map (λ row. fileOutcome (fileAt base true (ended (row .input))) ≡ row .outcome) Answered fileRows one
-    (all-mapped (λ row. fileOutcome (fileAt base true (ended (row .input)))) (λ row. row .outcome) fileRows file-rows-hold)
+file-call-rows texts = all-map (λ row. answer row ≡ row .outcome) (Answered texts) fileRows one (all-mapped answer (λ row. row .outcome) fileRows (file-rows-hold texts))
   where
-    one : (row : FileRow) → fileOutcome (fileAt base true (ended (row .input))) ≡ row .outcome → Answered row
+    answer : FileRow → FileOutcome
+    answer row = fileOutcome (fileAt base true (tokensOf texts 0 (ended (row .input))))
+
+    one : (row : FileRow) → answer row ≡ row .outcome → Answered texts row
     one row e text words kept definitions statements arguments r kept′ definitions′ statements′ arguments′ formed same enough room room′ room″ call =
         with-room formed enough (row .outcome) (rw same e) room room′ room″ call

@@ -23,3 +23,5 @@ pub mod FileRecorded
 pub mod FileBounds
 pub mod Tabled
 pub mod FileTabled
+pub mod Only
+pub mod FileOnly

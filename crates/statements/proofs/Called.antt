@@ -26,7 +26,7 @@ use Rattle.grammar.specs.Records.{statementRecords, argumentRecords, statementC
 use Rattle.grammar.specs.Call.{ReadingNumber, refusal, bodyNumbers, afterDoor, recordsOf, filled, heldAfter}
 use Rattle.grammar.specs.Tables.{BodyTable, typeWord, firstWord, endWord, innerWord, Flat, Walk}
 use Rattle.grammar.specs.Cases.{Outcome, Row, outcome, braced, tokensOf, rows}
-use Rattle.grammar.proofs.Lists.{agree-less, all-map, all-mapped, agree-length}
+use Rattle.grammar.proofs.Lists.{all-map, all-mapped, agree-length}
 use Rattle.grammar.proofs.Numbers.{body-ours, held-refused}
 use Rattle.grammar.proofs.Demand.{body-exactly, cursor, same-refusal}
 use Rattle.grammar.proofs.Recorded.{as-many, as-wide}

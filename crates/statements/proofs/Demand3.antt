@@ -15,15 +15,14 @@ use Rattle.grammar.specs.Reading.{Reading}
 use Rattle.grammar.specs.Rules.{base}
 use Rattle.grammar.specs.Result.{read}
 use Rattle.grammar.specs.Follows.{Follows}
-use Rattle.grammar.specs.Records.{statementRecords, argumentRecords, statementCount, argumentCount}
+use Rattle.grammar.specs.Records.{statementCount, argumentCount}
 use Rattle.grammar.specs.PlainLength.{plainLength}
-use Rattle.grammar.specs.Call.{bodyNumbers, recordsOf}
 use Rattle.grammar.specs.Cases.{outcome}
 use Rattle.grammar.specs.Tables.{Walk}
 use Rattle.grammar.proofs.Demand.{body-exactly, body-some, only-one}
 use Rattle.grammar.proofs.Recorded.{as-many}
 use Rattle.statements.specs.declared.entry.Body.{Body}
-use Rattle.statements.specs.Call.{values, numberOf, readingAt, BodyCall}
+use Rattle.statements.specs.Call.{numberOf, readingAt, BodyCall}
 use Rattle.statements.proofs.Bounds.{follows-fits}
 use Rattle.statements.proofs.Called.{Room, Holding, accepted, with-room, call-ranges}
 

@@ -1,18 +1,16 @@
 -- The entry: the kept list as the door leaves it, tables that hold records and then zeros, and the answer for what was read. Assumes nothing.
-use Prim.Native.Nat.{ℕ, _+_, _-_, _/_, _≤_}
+use Prim.Native.Nat.{ℕ, _+_, _-_, _/_}
 use native.Mathlib.Nat.{zero-add, sub-zero}
 use native.Mathlib.Omega.{arith}
 use mathlib.Core.Path.{_≡_, refl, sym, ap, _∙_}
 use mathlib.Core.Bool.{Bool, true, false, cond}
-use mathlib.Core.List.{List, [], _∷_, _++_, flatten}
+use mathlib.Core.List.{List, [], _∷_, flatten}
 use borrow.Author.Tests.{ltb-false}
-use lib.ListN.{length, getD, take, drop, replicate, length-append}
-use lib.Seq.{sets-eq, take-at}
+use lib.ListN.{length, getD, take, drop, replicate}
 use lib.Dec.{eqb, ltb}
 use Rattle.tokens.specs.Number as number
 use Rattle.tokens.specs.Number.{statementWidth, argumentWidth}
-use Rattle.tokens.specs.Token.{view, tokenCount}
-use Rattle.tokens.specs.Kept.{keptOf}
+use Rattle.tokens.specs.Token.{view}
 use Rattle.tokens.specs.Lent.{putAll, clearedBehind}
 use Rattle.tokens.specs.Door as doors
 use Rattle.tokens.specs.Door.{Prepared}
@@ -27,7 +25,7 @@ use Rattle.grammar.specs.Result.{Res, got, bad, beyond, read, answer}
 use Rattle.grammar.specs.Reader.{bodyFrom, bodyAt}
 use Rattle.grammar.specs.Facts.{All}
 use Rattle.grammar.specs.Records.{statementRecords, argumentRecords, statementCount, argumentCount}
-use Rattle.grammar.specs.Call.{refusal, bodyNumbers, recordsOf, filled, heldAfter}
+use Rattle.grammar.specs.Call.{refusal, bodyNumbers, filled, heldAfter}
 use Rattle.grammar.specs.PlainLength.{plainLength}
 use Rattle.grammar.proofs.Demand.{body-exactly}
 use Rattle.grammar.proofs.Numbers.{body-ours, held-refused}
@@ -36,7 +34,7 @@ use Rattle.statements.specs.declared.item.Progress.{Progress}
 use Rattle.statements.specs.declared.item.Items.{Items}
 use Rattle.statements.specs.declared.item.Items.the-variants as items
 use Rattle.statements.specs.declared.entry.Body.{Body}
-use Rattle.statements.specs.declared.entry.Body.the-variants.{NotWellFormed, KeptTooShort, StartOutside, Refused, StatementsTooSmall, ArgumentsTooSmall, Read}
+use Rattle.statements.specs.declared.entry.Body.the-variants.{Refused, StatementsTooSmall, ArgumentsTooSmall, Read}
 use Rattle.statements.specs.Answers.{BodyParsed}
 use Rattle.statements.specs.Call.{values, numberOf, Own, afterReading, BodyCall}
 use Rattle.statements.specs.Length.{lengthFrom}
