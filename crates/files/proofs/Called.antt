@@ -15,7 +15,7 @@ use Rattle.tokens.specs.Token.{Token}
 use Rattle.tokens.specs.Kept.{keptOf, keptTokens}
 use Rattle.tokens.specs.WellFormed.{WellFormed}
 use Rattle.tokens.specs.Door.{door}
-use Rattle.tokens.proofs.DoorLaws.{kept-not-empty, LetThrough, door-means, let-through}
+use Rattle.tokens.proofs.DoorLaws.{kept-not-empty, Means, means-30, means-35, means-31, means-through, door-means, let-through}
 use Rattle.grammar.specs.Rules.{base}
 use Rattle.grammar.specs.Result.{Answer, read, refused}
 use Rattle.grammar.specs.Facts.{All}
@@ -23,7 +23,7 @@ use Rattle.grammar.specs.FileReading.{Definition}
 use Rattle.grammar.specs.FileReader.{fileAt}
 use Rattle.grammar.specs.FileRecords.{definitionRecords, fileStatements, fileArguments, fileArgumentRecords, fileStatementCount}
 use Rattle.grammar.specs.FileFollows.{FollowsFile, RepeatedAt, Reached, FirstWrongFile, CursorAt}
-use Rattle.grammar.specs.Call.{ReadingNumber, refusal, fileNumbers, recordsOf, filled, heldAfter}
+use Rattle.grammar.specs.Call.{ReadingNumber, refusal, fileNumbers, afterDoor, recordsOf, filled, heldAfter}
 use Rattle.grammar.specs.Tables.{Stands}
 use Rattle.grammar.specs.FileTables.{FileTable, StatementsOf}
 use Rattle.grammar.specs.Cases.{tokensOf}
@@ -35,7 +35,7 @@ use Rattle.grammar.proofs.FileRecorded.{file-as-many, file-as-wide}
 use Rattle.grammar.proofs.Tabled.{stored-filled}
 use Rattle.grammar.proofs.FileTabled.{file-tabled, file-walked}
 use Rattle.grammar.proofs.FileCases.{fileOutcomes, file-rows-hold}
-use Rattle.statements.proofs.Called.{open-door}
+use Rattle.statements.proofs.Called.{Through, number-is}
 use Rattle.files.specs.declared.entry.File.{File}
 use Rattle.files.specs.Call.{values, numberOf, afterReading, fileReading, FileCall}
 
@@ -49,52 +49,78 @@ pub record Room (definitions statements arguments : List ℕ) (ds : List Definit
   pub forStatements : fileStatementCount ds ≤ length statements / statementWidth
   pub forArguments : length (fileArguments ds) ≤ length arguments / argumentWidth
 
--- ---- from the numbers back to the reading
+-- ---- from the numbers back to the list
 
--- what an answer behind the door comes from: a refusal of the reading, a reading that a table has no room for, a reading with room
-data From (definitions statements arguments : List ℕ) (x : Answer (List Definition)) (v : List ℕ) : Type 0 where
-  wasRefused : (c q : ℕ) → x ≡ refused c q → v ≡ refusal c q → From definitions statements arguments x v
-  noDefinitions : (ds : List Definition) (n : ℕ) → x ≡ read ds n → length definitions / definitionWidth < length ds → v ≡ refusal number.DefinitionsTooSmall (length ds)
-      → From definitions statements arguments x v
-  noStatements : (ds : List Definition) (n : ℕ) → x ≡ read ds n → length ds ≤ length definitions / definitionWidth → length statements / statementWidth < fileStatementCount ds
-      → v ≡ refusal number.StatementsTooSmall (fileStatementCount ds)
-      → From definitions statements arguments x v
-  noArguments : (ds : List Definition) (n : ℕ) → x ≡ read ds n → length ds ≤ length definitions / definitionWidth → fileStatementCount ds ≤ length statements / statementWidth
+-- what the five numbers of a call say of the list and the tables. 32, 33 and 34 are given only to a file that is accepted otherwise, where the whole records of that
+-- table are fewer than needed
+pub data Says (text words kept definitions statements arguments : List ℕ) : List ℕ → Type 0 where
+  says-30 : {at : ℕ} → ¬ WellFormed text words → Says text words kept definitions statements arguments (refusal number.NotWellFormed at)
+  says-35 : WellFormed text words → length kept < length (keptOf words) → Says text words kept definitions statements arguments (refusal number.KeptTooShort (length (keptOf words)))
+  says-refused : {c q : ℕ} → Through text words 0 kept → ReadingNumber c → fileReading text words ≡ refused c q → Says text words kept definitions statements arguments (refusal c q)
+  says-32 : (n : ℕ) (ds : List Definition)
+      → Through text words 0 kept
+      → IsFile text words n ds
+      → length definitions / definitionWidth < length ds
+      → Says text words kept definitions statements arguments (refusal number.DefinitionsTooSmall (length ds))
+  says-33 : (n : ℕ) (ds : List Definition)
+      → Through text words 0 kept
+      → IsFile text words n ds
+      → length ds ≤ length definitions / definitionWidth
+      → length statements / statementWidth < fileStatementCount ds
+      → Says text words kept definitions statements arguments (refusal number.StatementsTooSmall (fileStatementCount ds))
+  says-34 : (n : ℕ) (ds : List Definition)
+      → Through text words 0 kept
+      → IsFile text words n ds
+      → length ds ≤ length definitions / definitionWidth
+      → fileStatementCount ds ≤ length statements / statementWidth
       → length arguments / argumentWidth < length (fileArguments ds)
-      → v ≡ refusal number.ArgumentsTooSmall (length (fileArguments ds))
-      → From definitions statements arguments x v
-  wasRead : (ds : List Definition) (n : ℕ) → x ≡ read ds n → Room definitions statements arguments ds → v ≡ fileNumbers (read ds n) → From definitions statements arguments x v
+      → Says text words kept definitions statements arguments (refusal number.ArgumentsTooSmall (length (fileArguments ds)))
+  says-read : (n : ℕ) (ds : List Definition)
+      → Through text words 0 kept
+      → IsFile text words n ds
+      → Room definitions statements arguments ds
+      → Says text words kept definitions statements arguments (fileNumbers (read ds n))
 
-from : (definitions statements arguments : List ℕ) (x : Answer (List Definition)) → From definitions statements arguments x (afterReading x (length definitions) (length statements) (length arguments))
-unfolding afterReading
-from definitions statements arguments (refused c q) = wasRefused c q refl refl
-from definitions statements arguments (read ds n) =
-    go (ltb (length definitions / definitionWidth) (length ds)) refl (ltb (length statements / statementWidth) (fileStatementCount ds)) refl (ltb (length arguments / argumentWidth) (length (fileArguments ds))) refl
-  where
-    go : (b : Bool) → ltb (length definitions / definitionWidth) (length ds) ≡ b
-        → (d : Bool) → ltb (length statements / statementWidth) (fileStatementCount ds) ≡ d
-        → (g : Bool) → ltb (length arguments / argumentWidth) (length (fileArguments ds)) ≡ g
-        → From definitions statements arguments (read ds n)
-        (cond b (refusal number.DefinitionsTooSmall (length ds))
-        (cond d (refusal number.StatementsTooSmall (fileStatementCount ds))
-        (cond g (refusal number.ArgumentsTooSmall (length (fileArguments ds))) (fileNumbers (read ds n)))))
-    go true eb d ed g eg = noDefinitions ds n refl (ltb-true _ _ eb) refl
-    go false eb true ed g eg = noStatements ds n refl (ltb-false _ _ eb) (ltb-true _ _ ed) refl
-    go false eb false ed true eg = noArguments ds n refl (ltb-false _ _ eb) (ltb-false _ _ ed) (ltb-true _ _ eg) refl
-    go false eb false ed false eg = wasRead ds n refl (record { forDefinitions = ltb-false _ _ eb; forStatements = ltb-false _ _ ed; forArguments = ltb-false _ _ eg }) refl
+module _ (text words kept definitions statements arguments : List ℕ) where
+  -- behind the door
+  reading-says : Through text words 0 kept → (x : Answer (List Definition)) → fileReading text words ≡ x
+      → Says text words kept definitions statements arguments (afterReading x (length definitions) (length statements) (length arguments))
+  unfolding afterReading
+  reading-says l (refused c q) e = says-refused l (file-ours base true (keptTokens text words) c q e) e
+  reading-says l (read ds n) e =
+      go (ltb (length definitions / definitionWidth) (length ds)) refl (ltb (length statements / statementWidth) (fileStatementCount ds)) refl (ltb (length arguments / argumentWidth) (length (fileArguments ds))) refl
+    where
+      follows : IsFile text words n ds
+      follows = file-exactly base true (keptTokens text words) n ds .0 e
+
+      go : (b : Bool) → ltb (length definitions / definitionWidth) (length ds) ≡ b
+          → (d : Bool) → ltb (length statements / statementWidth) (fileStatementCount ds) ≡ d
+          → (g : Bool) → ltb (length arguments / argumentWidth) (length (fileArguments ds)) ≡ g
+          → Says text words kept definitions statements arguments
+          (cond b (refusal number.DefinitionsTooSmall (length ds))
+          (cond d (refusal number.StatementsTooSmall (fileStatementCount ds))
+          (cond g (refusal number.ArgumentsTooSmall (length (fileArguments ds))) (fileNumbers (read ds n)))))
+      go true eb d ed g eg = says-32 n ds l follows (ltb-true _ _ eb)
+      go false eb true ed g eg = says-33 n ds l follows (ltb-false _ _ eb) (ltb-true _ _ ed)
+      go false eb false ed true eg = says-34 n ds l follows (ltb-false _ _ eb) (ltb-false _ _ ed) (ltb-true _ _ eg)
+      go false eb false ed false eg = says-read n ds l follows (record { forDefinitions = ltb-false _ _ eb; forStatements = ltb-false _ _ ed; forArguments = ltb-false _ _ eg })
+
+  -- and at it, where a file is read from start 0, so that 31 is never given
+  door-says : (said : ℕ × ℕ) → Means text words 0 (length kept) said
+      → Says text words kept definitions statements arguments (afterDoor said (afterReading (fileReading text words) (length definitions) (length statements) (length arguments)))
+  door-says said (means-30 f) = says-30 f
+  door-says said (means-35 f h) = says-35 f h
+  door-says said (means-31 f h k) = absurd (omega (arith, k, kept-not-empty text words f))
+  door-says said (means-through l) = reading-says (rw (l .count) l) (fileReading text words) refl
 
 module _ {text words kept definitions statements arguments : List ℕ} {r : File} {kept′ definitions′ statements′ arguments′ : List ℕ}
     (call : FileCall text words kept definitions statements arguments r kept′ definitions′ statements′ arguments′) where
   abbrev tokens : List Token
   tokens = keptTokens text words
 
-  -- let through at the door, and what the answer behind it comes from
-  comes : (c : ℕ) → numberOf r ≡ c → (c ≡ number.NotWellFormed → ⊥) → (c ≡ number.KeptTooShort → ⊥) → (c ≡ number.StartOutside → ⊥)
-      → LetThrough text words 0 (length kept) (length (keptOf words)) × From definitions statements arguments (fileReading text words) (values r)
-  comes c e x y z =
-      let o = open-door (afterReading (fileReading text words) (length definitions) (length statements) (length arguments)) (door text words 0 (length kept)) (door-means text words 0 (length kept))
-      (ap (λ (v : List ℕ). getD v 0 0) (sym (call .answer)) ∙ e) x y z in
-      (o .0, rw (call .answer ∙ o .1) (from definitions statements arguments (fileReading text words)))
+  -- every call's numbers say so
+  pub file-call-says : Says text words kept definitions statements arguments (values r)
+  file-call-says = rw (call .answer) (door-says text words kept definitions statements arguments (door text words 0 (length kept)) (door-means text words 0 (length kept)))
 
   -- the answer and the tables are those of the reading ds, and Eof stands at n
   pub record Holding (n : ℕ) (ds : List Definition) : Type 0 where
@@ -110,7 +136,7 @@ module _ {text words kept definitions statements arguments : List ℕ} {r : File
 
   -- an accepted call was let through at the door and has read a file that follows the grammar, and the tables had room for its records
   pub record Accepted : Type 0 where
-    pub through : LetThrough text words 0 (length kept) (length (keptOf words))
+    pub through : Through text words 0 kept
     pub n : ℕ
     pub ds : List Definition
     pub follows : IsFile text words n ds
@@ -118,73 +144,36 @@ module _ {text words kept definitions statements arguments : List ℕ} {r : File
     pub holds : Holding n ds
 
   pub accepted : numberOf r ≡ 0 → Accepted
-  accepted z = let o = comes 0 z (λ e. omega arith) (λ e. omega arith) (λ e. omega arith) in go (o .0) (o .1)
+  accepted z = go (values r) refl file-call-says
     where
-      go : LetThrough text words 0 (length kept) (length (keptOf words)) → From definitions statements arguments (fileReading text words) (values r) → Accepted
-      go l (wasRefused c q e f) = absurd (omega (arith, file-ours base true tokens c q e .0, sym (ap (λ (w : List ℕ). getD w 0 0) f) ∙ z))
-      go l (noDefinitions ds n e h f) = absurd (omega (arith, sym (ap (λ (w : List ℕ). getD w 0 0) f) ∙ z))
-      go l (noStatements ds n e h k f) = absurd (omega (arith, sym (ap (λ (w : List ℕ). getD w 0 0) f) ∙ z))
-      go l (noArguments ds n e h k g f) = absurd (omega (arith, sym (ap (λ (w : List ℕ). getD w 0 0) f) ∙ z))
-      go l (wasRead ds n e room f) = record { through = l; n = n; ds = ds; follows = file-exactly base true tokens n ds .0 e; room = room; holds = holding n ds e f }
+      go : (v : List ℕ) → values r ≡ v → Says text words kept definitions statements arguments v → Accepted
+      go v is (says-30 f) = absurd (omega (arith, number-is is))
+      go v is (says-35 f h) = absurd (omega (arith, number-is is))
+      go v is (says-refused l ours e) = absurd (omega (arith, number-is is, ours .0))
+      go v is (says-32 n ds l f h) = absurd (omega (arith, number-is is))
+      go v is (says-33 n ds l f h k) = absurd (omega (arith, number-is is))
+      go v is (says-34 n ds l f h k g) = absurd (omega (arith, number-is is))
+      go v is (says-read n ds l f room) = record { through = l; n = n; ds = ds; follows = f; room = room; holds = holding n ds (file-exactly base true tokens n ds .1 f) is }
 
   -- refused by the reading: the door let the call through, and the reader gives this number and cursor
   pub record RefusedThere (c q : ℕ) : Type 0 where
-    pub through : LetThrough text words 0 (length kept) (length (keptOf words))
+    pub through : Through text words 0 kept
     pub reads : fileReading text words ≡ refused c q
 
   pub refused-there : (c q : ℕ) → values r ≡ refusal c q → ReadingNumber c → RefusedThere c q
-  refused-there c q is ours =
-      let o = comes c (ap (λ (v : List ℕ). getD v 0 0) is) (λ e. omega (arith, ours .1)) (λ e. omega (arith, ours .1)) (λ e. omega (arith, ours .1)) in
-      record { through = o .0; reads = go (o .1) }
+  refused-there c q is ours = go (values r) refl file-call-says
     where
-      go : From definitions statements arguments (fileReading text words) (values r) → fileReading text words ≡ refused c q
-      go (wasRefused d p e f) =
-          let k : c ≡ d = ap (λ (w : List ℕ). getD w 0 0) (sym is ∙ f) in
-          let l : q ≡ p = ap (λ (w : List ℕ). getD w 1 0) (sym is ∙ f) in
-          rw (k, l) e
-      go (noDefinitions ds n e h f) = absurd (omega (arith, ap (λ (w : List ℕ). getD w 0 0) (sym is ∙ f), ours .1))
-      go (noStatements ds n e h k f) = absurd (omega (arith, ap (λ (w : List ℕ). getD w 0 0) (sym is ∙ f), ours .1))
-      go (noArguments ds n e h k g f) = absurd (omega (arith, ap (λ (w : List ℕ). getD w 0 0) (sym is ∙ f), ours .1))
-      go (wasRead ds n e room f) = absurd (omega (arith, ap (λ (w : List ℕ). getD w 0 0) (sym is ∙ f), ours .0))
-
-  -- ---- 32, 33 and 34: only for a file that is accepted otherwise, and where a table's whole records are fewer than needed; the cursor is the need
-
-  -- a file that is accepted but for its room, with this need
-  abbrev Needs : (List Definition → Type 0) → Type 0
-  Needs What = (n : ℕ) × (ds : List Definition) × IsFile text words n ds × What ds
-
-  pub file-call-32 : (k : ℕ) → values r ≡ refusal number.DefinitionsTooSmall k → Needs (λ ds. (k ≡ length ds) × (length definitions / definitionWidth < k))
-  file-call-32 k is = go (comes number.DefinitionsTooSmall (ap (λ (v : List ℕ). getD v 0 0) is) (λ e. omega arith) (λ e. omega arith) (λ e. omega arith) .1)
-    where
-      go : From definitions statements arguments (fileReading text words) (values r) → Needs (λ ds. (k ≡ length ds) × (length definitions / definitionWidth < k))
-      go (wasRefused c q e f) = absurd (omega (arith, ap (λ (w : List ℕ). getD w 0 0) (sym is ∙ f), file-ours base true tokens c q e .1))
-      go (noDefinitions ds n e h f) = let need : k ≡ length ds = ap (λ (w : List ℕ). getD w 1 0) (sym is ∙ f) in (n, ds, file-exactly base true tokens n ds .0 e, (need, rw need h))
-      go (noStatements ds n e h l f) = absurd (omega (arith, ap (λ (w : List ℕ). getD w 0 0) (sym is ∙ f)))
-      go (noArguments ds n e h l g f) = absurd (omega (arith, ap (λ (w : List ℕ). getD w 0 0) (sym is ∙ f)))
-      go (wasRead ds n e room f) = absurd (omega (arith, ap (λ (w : List ℕ). getD w 0 0) (sym is ∙ f)))
-
-  pub file-call-33 : (k : ℕ) → values r ≡ refusal number.StatementsTooSmall k
-      → Needs (λ ds. (length ds ≤ length definitions / definitionWidth) × (k ≡ fileStatementCount ds) × (length statements / statementWidth < k))
-  file-call-33 k is = go (comes number.StatementsTooSmall (ap (λ (v : List ℕ). getD v 0 0) is) (λ e. omega arith) (λ e. omega arith) (λ e. omega arith) .1)
-    where
-      go : From definitions statements arguments (fileReading text words) (values r) → Needs (λ ds. (length ds ≤ length definitions / definitionWidth) × (k ≡ fileStatementCount ds) × (length statements / statementWidth < k))
-      go (wasRefused c q e f) = absurd (omega (arith, ap (λ (w : List ℕ). getD w 0 0) (sym is ∙ f), file-ours base true tokens c q e .1))
-      go (noDefinitions ds n e h f) = absurd (omega (arith, ap (λ (w : List ℕ). getD w 0 0) (sym is ∙ f)))
-      go (noStatements ds n e h l f) = let need : k ≡ fileStatementCount ds = ap (λ (w : List ℕ). getD w 1 0) (sym is ∙ f) in (n, ds, file-exactly base true tokens n ds .0 e, (h, need, rw need l))
-      go (noArguments ds n e h l g f) = absurd (omega (arith, ap (λ (w : List ℕ). getD w 0 0) (sym is ∙ f)))
-      go (wasRead ds n e room f) = absurd (omega (arith, ap (λ (w : List ℕ). getD w 0 0) (sym is ∙ f)))
-
-  pub file-call-34 : (k : ℕ) → values r ≡ refusal number.ArgumentsTooSmall k
-      → Needs (λ ds. (length ds ≤ length definitions / definitionWidth) × (fileStatementCount ds ≤ length statements / statementWidth) × (k ≡ length (fileArguments ds)) × (length arguments / argumentWidth < k))
-  file-call-34 k is = go (comes number.ArgumentsTooSmall (ap (λ (v : List ℕ). getD v 0 0) is) (λ e. omega arith) (λ e. omega arith) (λ e. omega arith) .1)
-    where
-      go : From definitions statements arguments (fileReading text words) (values r)
-          → Needs (λ ds. (length ds ≤ length definitions / definitionWidth) × (fileStatementCount ds ≤ length statements / statementWidth) × (k ≡ length (fileArguments ds)) × (length arguments / argumentWidth < k))
-      go (wasRefused c q e f) = absurd (omega (arith, ap (λ (w : List ℕ). getD w 0 0) (sym is ∙ f), file-ours base true tokens c q e .1))
-      go (noDefinitions ds n e h f) = absurd (omega (arith, ap (λ (w : List ℕ). getD w 0 0) (sym is ∙ f)))
-      go (noStatements ds n e h l f) = absurd (omega (arith, ap (λ (w : List ℕ). getD w 0 0) (sym is ∙ f)))
-      go (noArguments ds n e h l g f) = let need : k ≡ length (fileArguments ds) = ap (λ (w : List ℕ). getD w 1 0) (sym is ∙ f) in (n, ds, file-exactly base true tokens n ds .0 e, (h, l, need, rw need g))
-      go (wasRead ds n e room f) = absurd (omega (arith, ap (λ (w : List ℕ). getD w 0 0) (sym is ∙ f)))
+      go : (v : List ℕ) → values r ≡ v → Says text words kept definitions statements arguments v → RefusedThere c q
+      go v e (says-30 f) = absurd (omega (arith, number-is (sym is ∙ e), ours .1))
+      go v e (says-35 f h) = absurd (omega (arith, number-is (sym is ∙ e), ours .1))
+      go v e (says-refused {c = d} {q = p} l o g) =
+          let k : c ≡ d = number-is (sym is ∙ e) in
+          let m : q ≡ p = ap (λ (w : List ℕ). getD w 1 0) (sym is ∙ e) in
+          record { through = l; reads = rw (k, m) g }
+      go v e (says-32 n ds l f h) = absurd (omega (arith, number-is (sym is ∙ e), ours .1))
+      go v e (says-33 n ds l f h k) = absurd (omega (arith, number-is (sym is ∙ e), ours .1))
+      go v e (says-34 n ds l f h k g) = absurd (omega (arith, number-is (sym is ∙ e), ours .1))
+      go v e (says-read n ds l f room) = absurd (omega (arith, number-is (sym is ∙ e), ours .0))
 
   -- ---- the tables
 
@@ -202,7 +191,7 @@ module _ {text words kept definitions statements arguments : List ℕ} {r : File
   pub file-call-tables : (q k n m : ℕ) → values r ≡ 0 ∷ q ∷ k ∷ n ∷ m ∷ []
       → FileTable tokens definitions′ statements′ arguments′ 0 k 0 n 0 m 0 q × (q < length tokens) × Stands tokens q Eof
   file-call-tables q k n m is =
-      let a = accepted (ap (λ (w : List ℕ). getD w 0 0) is) in
+      let a = accepted (number-is is) in
       let told = sym (a .holds .answer) ∙ is in
       let all : FileTable tokens definitions′ statements′ arguments′ 0 (length (a .ds)) 0 (fileStatementCount (a .ds)) 0 (length (fileArguments (a .ds))) 0 (a .n) × (a .n < length tokens) × Stands tokens (a .n) Eof =
       (tables-of (a .n) (a .ds) (a .follows) (a .holds), a .follows .0, a .follows .1) in

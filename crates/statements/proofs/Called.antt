@@ -40,56 +40,74 @@ pub record Room (statements arguments : List ℕ) (rd : Reading) : Type 0 where
   pub forStatements : statementCount rd ≤ length statements / statementWidth
   pub forArguments : argumentCount rd ≤ length arguments / argumentWidth
 
--- ---- from the numbers back to the reading
+-- the numbers of two lists of numbers that are equal
+pub number-is : {v w : List ℕ} → v ≡ w → getD v 0 0 ≡ getD w 0 0
+number-is e = ap (λ (u : List ℕ). getD u 0 0) e
 
--- what an answer behind the door comes from: a refusal of the reading, a reading that a table has no room for, a reading with room
-data From (start : ℕ) (statements arguments : List ℕ) (x : Answer Reading) (v : List ℕ) : Type 0 where
-  wasRefused : (c q : ℕ) → x ≡ refused c q → v ≡ refusal c q → From start statements arguments x v
-  noStatements : (rd : Reading) (n : ℕ) → x ≡ read rd n → length statements / statementWidth < statementCount rd → v ≡ refusal number.StatementsTooSmall (statementCount rd)
-      → From start statements arguments x v
-  noArguments : (rd : Reading) (n : ℕ) → x ≡ read rd n → statementCount rd ≤ length statements / statementWidth → length arguments / argumentWidth < argumentCount rd
-      → v ≡ refusal number.ArgumentsTooSmall (argumentCount rd)
-      → From start statements arguments x v
-  wasRead : (rd : Reading) (n : ℕ) → x ≡ read rd n → Room statements arguments rd → v ≡ bodyNumbers start (read rd n) → From start statements arguments x v
+-- ---- from the numbers back to the list
 
-from : (start : ℕ) (statements arguments : List ℕ) (x : Answer Reading) → From start statements arguments x (afterReading x start (length statements) (length arguments))
-unfolding afterReading
-from start statements arguments (refused c q) = wasRefused c q refl refl
-from start statements arguments (read rd n) = go (ltb (length statements / statementWidth) (statementCount rd)) refl (ltb (length arguments / argumentWidth) (argumentCount rd)) refl
-  where
-    go : (b : Bool) → ltb (length statements / statementWidth) (statementCount rd) ≡ b → (d : Bool) → ltb (length arguments / argumentWidth) (argumentCount rd) ≡ d
-        → From start statements arguments (read rd n)
-        (cond b (refusal number.StatementsTooSmall (statementCount rd)) (cond d (refusal number.ArgumentsTooSmall (argumentCount rd)) (bodyNumbers start (read rd n))))
-    go true eb d ed = noStatements rd n refl (ltb-true _ _ eb) refl
-    go false eb true ed = noArguments rd n refl (ltb-false _ _ eb) (ltb-true _ _ ed) refl
-    go false eb false ed = wasRead rd n refl (record { forStatements = ltb-false _ _ eb; forArguments = ltb-false _ _ ed }) refl
+-- the door let the call through: the list is well formed, the kept list long enough, the start inside
+abbrev pub Through : List ℕ → List ℕ → ℕ → List ℕ → Type 0
+Through text words start kept = LetThrough text words start (length kept) (length (keptOf words))
 
--- another number than 30, 35 and 31 was not given at the door
-pub open-door : {text words : List ℕ} {start room c : ℕ} (v : List ℕ) (said : ℕ × ℕ) → Means text words start room said → getD (afterDoor said v) 0 0 ≡ c
-    → (c ≡ number.NotWellFormed → ⊥) → (c ≡ number.KeptTooShort → ⊥) → (c ≡ number.StartOutside → ⊥)
-    → LetThrough text words start room (length (keptOf words)) × (afterDoor said v ≡ v)
-open-door v said (means-30 f) e x y z = absurd (x (sym e))
-open-door v said (means-35 f h) e x y z = absurd (y (sym e))
-open-door v said (means-31 f h i) e x y z = absurd (z (sym e))
-open-door v said (means-through l) e x y z = (rw (l .count) l, refl)
+-- what the five numbers of a call say of the list and the tables. 33 and 34 are given only to a body that is accepted otherwise, where the whole records of that
+-- table are fewer than needed
+pub data Says (text words : List ℕ) (start : ℕ) (kept statements arguments : List ℕ) : List ℕ → Type 0 where
+  says-30 : {at : ℕ} → ¬ WellFormed text words → Says text words start kept statements arguments (refusal number.NotWellFormed at)
+  says-35 : WellFormed text words → length kept < length (keptOf words) → Says text words start kept statements arguments (refusal number.KeptTooShort (length (keptOf words)))
+  says-31 : WellFormed text words → length (keptOf words) ≤ length kept → length (keptOf words) ≤ start → Says text words start kept statements arguments (refusal number.StartOutside start)
+  says-refused : {c q : ℕ} → Through text words start kept → ReadingNumber c → readingAt text words start ≡ refused c q → Says text words start kept statements arguments (refusal c q)
+  says-33 : (n : ℕ) (rd : Reading)
+      → Through text words start kept
+      → Follows base (keptTokens text words) start n rd
+      → length statements / statementWidth < statementCount rd
+      → Says text words start kept statements arguments (refusal number.StatementsTooSmall (statementCount rd))
+  says-34 : (n : ℕ) (rd : Reading)
+      → Through text words start kept
+      → Follows base (keptTokens text words) start n rd
+      → statementCount rd ≤ length statements / statementWidth
+      → length arguments / argumentWidth < argumentCount rd
+      → Says text words start kept statements arguments (refusal number.ArgumentsTooSmall (argumentCount rd))
+  says-read : (n : ℕ) (rd : Reading)
+      → Through text words start kept
+      → Follows base (keptTokens text words) start n rd
+      → Room statements arguments rd
+      → Says text words start kept statements arguments (bodyNumbers start (read rd n))
+
+module _ (text words : List ℕ) (start : ℕ) (kept statements arguments : List ℕ) where
+  -- behind the door
+  reading-says : Through text words start kept → (x : Answer Reading) → readingAt text words start ≡ x
+      → Says text words start kept statements arguments (afterReading x start (length statements) (length arguments))
+  unfolding afterReading
+  reading-says l (refused c q) e = says-refused l (body-ours base (keptTokens text words) start c q e) e
+  reading-says l (read rd n) e = go (ltb (length statements / statementWidth) (statementCount rd)) refl (ltb (length arguments / argumentWidth) (argumentCount rd)) refl
+    where
+      follows : Follows base (keptTokens text words) start n rd
+      follows = body-exactly base (keptTokens text words) start n rd .0 e
+
+      go : (b : Bool) → ltb (length statements / statementWidth) (statementCount rd) ≡ b → (d : Bool) → ltb (length arguments / argumentWidth) (argumentCount rd) ≡ d
+          → Says text words start kept statements arguments
+          (cond b (refusal number.StatementsTooSmall (statementCount rd)) (cond d (refusal number.ArgumentsTooSmall (argumentCount rd)) (bodyNumbers start (read rd n))))
+      go true eb d ed = says-33 n rd l follows (ltb-true _ _ eb)
+      go false eb true ed = says-34 n rd l follows (ltb-false _ _ eb) (ltb-true _ _ ed)
+      go false eb false ed = says-read n rd l follows (record { forStatements = ltb-false _ _ eb; forArguments = ltb-false _ _ ed })
+
+  -- and at it
+  door-says : (said : ℕ × ℕ) → Means text words start (length kept) said
+      → Says text words start kept statements arguments (afterDoor said (afterReading (readingAt text words start) start (length statements) (length arguments)))
+  door-says said (means-30 f) = says-30 f
+  door-says said (means-35 f h) = says-35 f h
+  door-says said (means-31 f h k) = says-31 f h k
+  door-says said (means-through l) = reading-says (rw (l .count) l) (readingAt text words start) refl
 
 module _ {text words : List ℕ} {start : ℕ} {kept statements arguments : List ℕ} {r : Body} {kept′ statements′ arguments′ : List ℕ}
     (call : BodyCall text words start kept statements arguments r kept′ statements′ arguments′) where
   abbrev tokens : List Token
   tokens = keptTokens text words
 
-  -- let through at the door, and the answer behind it
-  entered : (c : ℕ) → numberOf r ≡ c → (c ≡ number.NotWellFormed → ⊥) → (c ≡ number.KeptTooShort → ⊥) → (c ≡ number.StartOutside → ⊥)
-      → LetThrough text words start (length kept) (length (keptOf words)) × (values r ≡ afterReading (readingAt text words start) start (length statements) (length arguments))
-  entered c e x y z =
-      let o = open-door (afterReading (readingAt text words start) start (length statements) (length arguments)) (door text words start (length kept)) (door-means text words start (length kept))
-      (ap (λ (v : List ℕ). getD v 0 0) (sym (call .answer)) ∙ e) x y z in
-      (o .0, call .answer ∙ o .1)
-
-  -- and what that comes from
-  comes : (c : ℕ) → numberOf r ≡ c → (c ≡ number.NotWellFormed → ⊥) → (c ≡ number.KeptTooShort → ⊥) → (c ≡ number.StartOutside → ⊥)
-      → LetThrough text words start (length kept) (length (keptOf words)) × From start statements arguments (readingAt text words start) (values r)
-  comes c e x y z = let o = entered c e x y z in (o .0, rw (o .1) (from start statements arguments (readingAt text words start)))
+  -- every call's numbers say so
+  pub call-says : Says text words start kept statements arguments (values r)
+  call-says = rw (call .answer) (door-says text words start kept statements arguments (door text words start (length kept)) (door-means text words start (length kept)))
 
   -- the answer and the tables are those of the reading rd of n tokens from the start
   pub record Holding (n : ℕ) (rd : Reading) : Type 0 where
@@ -103,7 +121,7 @@ module _ {text words : List ℕ} {start : ℕ} {kept statements arguments : List
 
   -- an accepted call was let through at the door and has read a stretch that follows the grammar, and the tables had room for its records
   pub record Accepted : Type 0 where
-    pub through : LetThrough text words start (length kept) (length (keptOf words))
+    pub through : Through text words start kept
     pub n : ℕ
     pub rd : Reading
     pub follows : Follows base tokens start n rd
@@ -111,54 +129,36 @@ module _ {text words : List ℕ} {start : ℕ} {kept statements arguments : List
     pub holds : Holding n rd
 
   pub accepted : numberOf r ≡ 0 → Accepted
-  accepted z = let o = comes 0 z (λ e. omega arith) (λ e. omega arith) (λ e. omega arith) in go (o .0) (o .1)
+  accepted z = go (values r) refl call-says
     where
-      go : LetThrough text words start (length kept) (length (keptOf words)) → From start statements arguments (readingAt text words start) (values r) → Accepted
-      go l (wasRefused c q e f) = absurd (omega (arith, body-ours base tokens start c q e .0, sym (ap (λ (w : List ℕ). getD w 0 0) f) ∙ z))
-      go l (noStatements rd n e h f) = absurd (omega (arith, sym (ap (λ (w : List ℕ). getD w 0 0) f) ∙ z))
-      go l (noArguments rd n e h k f) = absurd (omega (arith, sym (ap (λ (w : List ℕ). getD w 0 0) f) ∙ z))
-      go l (wasRead rd n e room f) = record { through = l; n = n; rd = rd; follows = body-exactly base tokens start n rd .0 e; room = room; holds = holding n rd e f }
+      go : (v : List ℕ) → values r ≡ v → Says text words start kept statements arguments v → Accepted
+      go v is (says-30 f) = absurd (omega (arith, number-is is))
+      go v is (says-35 f h) = absurd (omega (arith, number-is is))
+      go v is (says-31 f h k) = absurd (omega (arith, number-is is))
+      go v is (says-refused l ours e) = absurd (omega (arith, number-is is, ours .0))
+      go v is (says-33 n rd l f h) = absurd (omega (arith, number-is is))
+      go v is (says-34 n rd l f h k) = absurd (omega (arith, number-is is))
+      go v is (says-read n rd l f room) = record { through = l; n = n; rd = rd; follows = f; room = room; holds = holding n rd (body-exactly base tokens start n rd .1 f) is }
 
   -- refused by the reading: the door let the call through, and the reader gives this number and cursor
   pub record RefusedThere (c q : ℕ) : Type 0 where
-    pub through : LetThrough text words start (length kept) (length (keptOf words))
+    pub through : Through text words start kept
     pub reads : readingAt text words start ≡ refused c q
 
   pub refused-there : (c q : ℕ) → values r ≡ refusal c q → ReadingNumber c → RefusedThere c q
-  refused-there c q is ours =
-      let o = comes c (ap (λ (v : List ℕ). getD v 0 0) is) (λ e. omega (arith, ours .1)) (λ e. omega (arith, ours .1)) (λ e. omega (arith, ours .1)) in
-      record { through = o .0; reads = go (o .1) }
+  refused-there c q is ours = go (values r) refl call-says
     where
-      go : From start statements arguments (readingAt text words start) (values r) → readingAt text words start ≡ refused c q
-      go (wasRefused d p e f) =
-          let k : c ≡ d = ap (λ (w : List ℕ). getD w 0 0) (sym is ∙ f) in
-          let l : q ≡ p = ap (λ (w : List ℕ). getD w 1 0) (sym is ∙ f) in
-          rw (k, l) e
-      go (noStatements rd n e h f) = absurd (omega (arith, ap (λ (w : List ℕ). getD w 0 0) (sym is ∙ f), ours .1))
-      go (noArguments rd n e h k f) = absurd (omega (arith, ap (λ (w : List ℕ). getD w 0 0) (sym is ∙ f), ours .1))
-      go (wasRead rd n e room f) = absurd (omega (arith, ap (λ (w : List ℕ). getD w 0 0) (sym is ∙ f), ours .0))
-
-  -- ---- 33 and 34: only for a body that is accepted otherwise, and where its whole records are fewer than needed; the cursor is the need
-
-  pub call-33 : (k : ℕ) → values r ≡ refusal number.StatementsTooSmall k
-      → (n : ℕ) × (rd : Reading) × Follows base tokens start n rd × (k ≡ statementCount rd) × (length statements / statementWidth < k)
-  call-33 k is = go (comes number.StatementsTooSmall (ap (λ (v : List ℕ). getD v 0 0) is) (λ e. omega arith) (λ e. omega arith) (λ e. omega arith) .1)
-    where
-      go : From start statements arguments (readingAt text words start) (values r) → (n : ℕ) × (rd : Reading) × Follows base tokens start n rd × (k ≡ statementCount rd) × (length statements / statementWidth < k)
-      go (wasRefused c q e f) = absurd (omega (arith, ap (λ (w : List ℕ). getD w 0 0) (sym is ∙ f), body-ours base tokens start c q e .1))
-      go (noStatements rd n e h f) = let need : k ≡ statementCount rd = ap (λ (w : List ℕ). getD w 1 0) (sym is ∙ f) in (n, rd, body-exactly base tokens start n rd .0 e, need, rw need h)
-      go (noArguments rd n e h l f) = absurd (omega (arith, ap (λ (w : List ℕ). getD w 0 0) (sym is ∙ f)))
-      go (wasRead rd n e room f) = absurd (omega (arith, ap (λ (w : List ℕ). getD w 0 0) (sym is ∙ f)))
-
-  pub call-34 : (k : ℕ) → values r ≡ refusal number.ArgumentsTooSmall k
-      → (n : ℕ) × (rd : Reading) × Follows base tokens start n rd × (statementCount rd ≤ length statements / statementWidth) × (k ≡ argumentCount rd) × (length arguments / argumentWidth < k)
-  call-34 k is = go (comes number.ArgumentsTooSmall (ap (λ (v : List ℕ). getD v 0 0) is) (λ e. omega arith) (λ e. omega arith) (λ e. omega arith) .1)
-    where
-      go : From start statements arguments (readingAt text words start) (values r) → (n : ℕ) × (rd : Reading) × Follows base tokens start n rd × (statementCount rd ≤ length statements / statementWidth) × (k ≡ argumentCount rd) × (length arguments / argumentWidth < k)
-      go (wasRefused c q e f) = absurd (omega (arith, ap (λ (w : List ℕ). getD w 0 0) (sym is ∙ f), body-ours base tokens start c q e .1))
-      go (noStatements rd n e h f) = absurd (omega (arith, ap (λ (w : List ℕ). getD w 0 0) (sym is ∙ f)))
-      go (noArguments rd n e h l f) = let need : k ≡ argumentCount rd = ap (λ (w : List ℕ). getD w 1 0) (sym is ∙ f) in (n, rd, body-exactly base tokens start n rd .0 e, h, need, rw need l)
-      go (wasRead rd n e room f) = absurd (omega (arith, ap (λ (w : List ℕ). getD w 0 0) (sym is ∙ f)))
+      go : (v : List ℕ) → values r ≡ v → Says text words start kept statements arguments v → RefusedThere c q
+      go v e (says-30 f) = absurd (omega (arith, number-is (sym is ∙ e), ours .1))
+      go v e (says-35 f h) = absurd (omega (arith, number-is (sym is ∙ e), ours .1))
+      go v e (says-31 f h k) = absurd (omega (arith, number-is (sym is ∙ e), ours .1))
+      go v e (says-refused {c = d} {q = p} l o g) =
+          let k : c ≡ d = number-is (sym is ∙ e) in
+          let m : q ≡ p = ap (λ (w : List ℕ). getD w 1 0) (sym is ∙ e) in
+          record { through = l; reads = rw (k, m) g }
+      go v e (says-33 n rd l f h) = absurd (omega (arith, number-is (sym is ∙ e), ours .1))
+      go v e (says-34 n rd l f h k) = absurd (omega (arith, number-is (sym is ∙ e), ours .1))
+      go v e (says-read n rd l f room) = absurd (omega (arith, number-is (sym is ∙ e), ours .0))
 
   -- ---- the tables
 
@@ -173,7 +173,7 @@ module _ {text words : List ℕ} {start : ℕ} {kept statements arguments : List
   -- the promise says itself.)
   pub call-tables : (q n m size : ℕ) → values r ≡ 0 ∷ q ∷ n ∷ m ∷ size ∷ [] → BodyTable tokens statements′ arguments′ 0 n 0 m start q
   call-tables q n m size is =
-      let a = accepted (ap (λ (w : List ℕ). getD w 0 0) is) in
+      let a = accepted (number-is is) in
       let told = sym (a .holds .answer) ∙ is in
       let table = tables-of (a .n) (a .rd) (a .follows) (a .holds) in
       rw (ap (λ (w : List ℕ). getD w 1 0) told) at (rw (ap (λ (w : List ℕ). getD w 2 0) told) at (rw (ap (λ (w : List ℕ). getD w 3 0) told) at table))
