@@ -1,5 +1,5 @@
 -- Theorems about `read_file`'s own promise: what an accepted call and a refused one say of the tokens and leave in the tables. Assumes nothing.
-use Prim.Native.Nat.{ℕ, suc, _/_, _≤_, _<_}
+use Prim.Native.Nat.{ℕ, suc, _+_, _-_, _/_, _≤_, _<_}
 use native.Mathlib.Omega.{arith}
 use mathlib.Core.Path.{_≡_, refl, sym, ap, _∙_}
 use mathlib.Core.Logic.{_↔_}
@@ -9,7 +9,7 @@ use borrow.Author.Tests.{ltb-true, ltb-false, le-ltb}
 use lib.ListN.{length, getD, take}
 use lib.Dec.{ltb, eqb}
 use Rattle.tokens.specs.Number as number
-use Rattle.tokens.specs.Number.{definitionWidth, statementWidth, argumentWidth}
+use Rattle.tokens.specs.Number.{definitionWidth, statementWidth, argumentWidth, labelType, macroDefinition, testDefinition}
 use Rattle.tokens.specs.Kind.{Eof, Pound}
 use Rattle.tokens.specs.Token.{Token}
 use Rattle.tokens.specs.Kept.{keptOf, keptTokens}
@@ -24,15 +24,15 @@ use Rattle.grammar.specs.FileReader.{fileAt}
 use Rattle.grammar.specs.FileRecords.{definitionRecords, fileStatements, fileArguments, fileArgumentRecords, fileStatementCount}
 use Rattle.grammar.specs.FileFollows.{FollowsFile, RepeatedAt, Reached, FirstWrongFile, CursorAt}
 use Rattle.grammar.specs.Call.{ReadingNumber, refusal, fileNumbers, afterDoor, recordsOf, filled, heldAfter}
-use Rattle.grammar.specs.Tables.{Stands}
-use Rattle.grammar.specs.FileTables.{FileTable, StatementsOf}
+use Rattle.grammar.specs.Tables.{Stands, typeWord, firstWord, endWord, innerWord, Flat}
+use Rattle.grammar.specs.FileTables.{FileTable, definitionWord, StatementsOf}
 use Rattle.grammar.specs.Cases.{tokensOf}
 use Rattle.grammar.specs.FileCases.{FileOutcome, FileRow, fileOutcome, ended, fileRows}
 use Rattle.grammar.proofs.Lists.{all-map, all-mapped}
 use Rattle.grammar.proofs.Numbers.{file-ours, held-refused}
 use Rattle.grammar.proofs.FileDemand.{file-exactly, file-cursor, file-repeated, file-pound, file-same-refusal}
 use Rattle.grammar.proofs.FileRecorded.{file-as-many, file-as-wide}
-use Rattle.grammar.proofs.Tabled.{stored-filled}
+use Rattle.grammar.proofs.Tabled.{stored-filled, walk-labels-all}
 use Rattle.grammar.proofs.FileTabled.{file-tabled, file-walked}
 use Rattle.grammar.proofs.FileCases.{fileOutcomes, file-rows-hold}
 use Rattle.statements.proofs.Called.{Through, number-is}
@@ -200,6 +200,15 @@ module _ {text words kept definitions statements arguments : List ℕ} {r : File
   -- and the statements of each definition record, by the words alone but for the braces
   pub file-call-ranges : (q k n m : ℕ) → values r ≡ 0 ∷ q ∷ k ∷ n ∷ m ∷ [] → (d : ℕ) → d < k → StatementsOf tokens definitions′ statements′ d
   file-call-ranges q k n m is = file-walked tokens definitions′ statements′ arguments′ k n m q (file-call-tables q k n m is .0)
+
+  -- for each label among the statements of a macro, fn or test, its inner records: no labels, from behind its colon to its end
+  pub file-call-labels : (q k n m : ℕ) → values r ≡ 0 ∷ q ∷ k ∷ n ∷ m ∷ []
+      → (d : ℕ) → d < k → macroDefinition ≤ definitionWord 0 definitions′ d → definitionWord 0 definitions′ d ≤ testDefinition
+      → (x : ℕ) → definitionWord 8 definitions′ d ≤ x → x < definitionWord 8 definitions′ d + definitionWord 9 definitions′ d → typeWord statements′ x ≡ labelType
+      → Flat statements′ (suc x) (innerWord statements′ x) (suc (suc (firstWord statements′ x))) (endWord statements′ x)
+  file-call-labels q k n m is d below least most =
+      let body = file-call-ranges q k n m is d below .ofMacro least most in
+      walk-labels-all statements′ (definitionWord 8 definitions′ d) (suc (body .b)) (definitionWord 8 definitions′ d + definitionWord 9 definitions′ d) (definitionWord 3 definitions′ d - 1) (body .between)
 
   -- a number of the reading is given exactly where the reader gives it, behind the door
   said : (c q : ℕ) → ReadingNumber c → (What : Type 0) → (fileReading text words ≡ refused c q) ↔ What

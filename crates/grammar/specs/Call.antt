@@ -12,7 +12,7 @@ use Rattle.grammar.specs.FileReading.{Definition}
 use Rattle.grammar.specs.FileRecords.{fileArguments, fileStatementCount}
 use Rattle.grammar.specs.Result.{Answer, read, refused}
 
--- the numbers of a reading's refusals, 1 to 22: above an accepted call's 0, below those of the door and of the room
+-- the numbers kept for a reading's refusals: above an accepted call's 0, below those of the door and of the room
 abbrev pub ReadingNumber : ℕ → Type 0
 ReadingNumber c = (0 < c) × (c < NotWellFormed)
 
@@ -39,7 +39,7 @@ abbrev pub recordsOf : {A : Type 0} → (A → List (List ℕ)) → Answer A →
 recordsOf records (read x n) = records x
 recordsOf records (refused c q) = []
 
--- so many words: the records, where they fit, followed by zeros
+-- so many words, where the records fit: the records, followed by zeros
 abbrev pub filled : ℕ → List (List ℕ) → List ℕ
 filled size rs = flatten rs ++ replicate (size - length (flatten rs)) 0
 
