@@ -2,7 +2,7 @@
 //!
 //!     bench            ratios at 60,000 tokens, then growth from 1,000 to 64,000
 //!     bench --names    the test for repeated names alone: microseconds a file, by the number of macros
-//!     bench --quick    fewer rounds: whether all of it runs, not figures
+//!     bench --quick    short lists and few rounds: whether all of it runs, not figures
 //!
 //! What is timed: on one side a call of `simmerotter_read_file` with tables of exactly the need, which it zeroes itself; on the other `Parser::new(list, None)` and
 //! `parse()`, whose list was cloned before, once without and once with the freeing of the list and of what was read: the library has nothing to free. Beside them a call
@@ -80,11 +80,24 @@ fn rust_sample(list: &[Token], turns: usize) -> (f64, f64) {
     (read, read + free)
 }
 
-fn measure(list: &List, rounds: usize) -> Times {
+/// How long the lists are and how much is done with them.
+struct Pace {
+    tokens: usize,
+    sizes: &'static [usize],
+    /// Tokens that are read in a round, in as many calls as it takes.
+    round: usize,
+    rounds: usize,
+    growth_rounds: usize,
+}
+
+const FULL: Pace = Pace { tokens: 60_000, sizes: &[1_000, 2_000, 4_000, 8_000, 16_000, 32_000, 64_000], round: 200_000, rounds: 15, growth_rounds: 7 };
+const QUICK: Pace = Pace { tokens: 6_000, sizes: &[1_000, 2_000, 4_000], round: 12_000, rounds: 2, growth_rounds: 1 };
+
+fn measure(list: &List, round: usize, rounds: usize) -> Times {
     let built = tokens::build(&list.text, &list.words).expect("tokens that the Rust can hold");
     let mut tables = Tables::exact(list);
     let mut room = Room::new();
-    let turns = (200_000 / list.tokens()).max(2);
+    let turns = (round / list.tokens()).max(2);
     let (mut library, mut own, mut rust, mut freed) = (vec![], vec![], vec![], vec![]);
     let (mut pass, mut ratio, mut freed_ratio) = (vec![], vec![], vec![]);
     for _ in 0..rounds {
@@ -124,13 +137,13 @@ fn each(times: &Times, time: f64) -> f64 {
     time / times.tokens as f64
 }
 
-fn ratios(rounds: usize) {
-    println!("60,000 tokens, {rounds} rounds; least, middle and greatest; nanoseconds a token");
+fn ratios(pace: &Pace) {
+    println!("{} tokens, {} rounds; least, middle and greatest; nanoseconds a token", pace.tokens, pace.rounds);
     println!();
     println!("| Shape | Rust / library | with freeing | Library | With own room | Rust | with freeing | Bare pass | Bytes a token |");
     println!("|---|---|---|---|---|---|---|---|---|");
     for (name, make) in SHAPES {
-        let times = measure(&make(60_000), rounds);
+        let times = measure(&make(pace.tokens), pace.round, pace.rounds);
         let show = |s: Spread| format!("{:.1} {:.1} {:.1}", s.least, s.middle, s.greatest);
         let each = |s: Spread| show(Spread { least: each(&times, s.least), middle: each(&times, s.middle), greatest: each(&times, s.greatest) });
         let cells = [show(times.ratio), show(times.freed_ratio), each(times.library), each(times.room), each(times.rust), each(times.freed), each(times.pass)];
@@ -138,20 +151,19 @@ fn ratios(rounds: usize) {
     }
 }
 
-const SIZES: [usize; 7] = [1_000, 2_000, 4_000, 8_000, 16_000, 32_000, 64_000];
-
-fn growth(rounds: usize) {
+fn growth(pace: &Pace) {
+    let columns = |cell: &dyn Fn(usize) -> String| pace.sizes.iter().map(|&n| cell(n)).collect::<Vec<_>>().join(" | ");
     println!();
-    println!("Growth: nanoseconds a token, middle of {rounds} rounds, library / Rust");
+    println!("Growth: nanoseconds a token, middle of {} rounds, library / Rust", pace.growth_rounds);
     println!();
-    println!("| Shape | {} |", SIZES.map(|n| n.to_string()).join(" | "));
-    println!("|---|{}", "---|".repeat(SIZES.len()));
+    println!("| Shape | {} |", columns(&|n| n.to_string()));
+    println!("|---|{}", "---|".repeat(pace.sizes.len()));
     for (name, make) in SHAPES {
-        let cells = SIZES.map(|n| {
-            let times = measure(&make(n), rounds);
+        let cells = columns(&|n| {
+            let times = measure(&make(n), pace.round, pace.growth_rounds);
             format!("{:.1} / {:.0}", each(&times, times.library.middle), each(&times, times.rust.middle))
         });
-        println!("| {name} | {} |", cells.join(" | "));
+        println!("| {name} | {cells} |");
     }
 }
 
@@ -178,10 +190,10 @@ fn names(rounds: usize) {
 
 fn main() {
     let asked = |option: &str| std::env::args().any(|word| word == option);
-    let (many, few) = if asked("--quick") { (2, 1) } else { (15, 7) };
+    let pace = if asked("--quick") { QUICK } else { FULL };
     if asked("--names") {
-        return names(many);
+        return names(pace.rounds);
     }
-    ratios(many);
-    growth(few);
+    ratios(&pace);
+    growth(&pace);
 }
