@@ -9,7 +9,9 @@
 
 static bool is_hex(uint8_t byte)
 {
-    return (byte >= '0' && byte <= '9') || (byte >= 'a' && byte <= 'f') || (byte >= 'A' && byte <= 'F');
+    return (byte >= '0' && byte <= '9')
+        || (byte >= 'a' && byte <= 'f')
+        || (byte >= 'A' && byte <= 'F');
 }
 
 /* 0x and 1 to 64 hex digits. */

@@ -2,7 +2,8 @@
 use crate::room::FIRST_WORD;
 use crate::room::NUMBERS_ROOM;
 use crate::room::TEXT_ROOM;
-ghost use Prim.Native.Nat.{_≤_};
+use tokens::digit_value;
+use tokens::is_hex;
 
 // Where in a line its next byte stands: at MODE, in the five numbers from START to ARGS, in TEXT, in WORDS. An END is behind MODE's letter or behind a `-`.
 const MODE: usize = 0;
@@ -88,38 +89,9 @@ fn read_space(line: Line, byte: u8, next: usize) -> Line {
     refused(line)
 }
 
-// The hex digit of either case that a byte writes, or 16 if it writes none.
-fn digit_value(byte: u8) -> u32
-    ensures { λ r. ⌜ r ≤ 16 ⌝ }
-{
-    if byte < b'0' {
-        return 16;
-    }
-    if byte <= b'9' {
-        return (byte - b'0') as u32;
-    }
-    if byte < b'A' {
-        return 16;
-    }
-    if byte <= b'F' {
-        return (byte - b'A' + 10) as u32;
-    }
-    if byte < b'a' {
-        return 16;
-    }
-    if byte <= b'f' {
-        return (byte - b'a' + 10) as u32;
-    }
-    16
-}
-
 // One more digit of a number.
-fn read_digit(mut line: Line, byte: u8) -> Line {
-    let digit = digit_value(byte);
+fn add_digit(mut line: Line, digit: u8) -> Line {
     let digits = line.digits;
-    if 9 < digit {
-        return refused(line);
-    }
     if MOST_DIGITS <= digits {
         return refused(line);
     }
@@ -130,6 +102,14 @@ fn read_digit(mut line: Line, byte: u8) -> Line {
     line.value = value as u32;
     line.digits = digits + 1;
     line
+}
+
+// A byte of a number: a decimal digit.
+fn read_digit(line: Line, byte: u8) -> Line {
+    match byte {
+        b'0'..=b'9' => add_digit(line, byte - b'0'),
+        _ => refused(line),
+    }
 }
 
 // A number is whole, and the next one begins.
@@ -189,10 +169,10 @@ fn keep_byte(mut line: Line, byte: u8, text: &mut [u8; TEXT_ROOM]) -> Line {
 
 // A hex digit of the text: the first of a byte is kept in hand, the second makes it whole.
 fn read_hex(mut line: Line, byte: u8, text: &mut [u8; TEXT_ROOM]) -> Line {
-    let digit = digit_value(byte);
-    if 15 < digit {
+    if !is_hex(byte) {
         return refused(line);
     }
+    let digit = digit_value(byte) as u32;
     if line.digits != 0 {
         let high = line.value % 16;
         return keep_byte(line, (high * 16 + digit) as u8, text);

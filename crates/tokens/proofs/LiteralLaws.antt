@@ -1,10 +1,11 @@
 -- Laws of values: hex digits and the number that they write, the significant bytes of a number, and the value pushes that it fits.
--- The promises of the product are `significant-holds`, `-least`, `-between` and `-zero`, `literal-value-whole`, `fits-value` and `yellow-paper` with its
+-- The promises of the product are `digits-worth`, `significant-holds`, `-least`, `-between` and `-zero`, `literal-value-whole`, `fits-value` and `yellow-paper` with its
 -- converse; the rest serves the proofs of the code. Assumes nothing.
+use Prim.Native.Char.{code}
 use Prim.Native.Nat.{ℕ, zero, suc, _+_, _-_, _*_, _/_, _%_, _^_, _≤_, _<_, min, max}
 use mathlib.Core.Path.{_≡_, refl, sym, ap, _∙_}
 use mathlib.Core.Bool.{Bool, true, false, cond, not, _&&_, and-true, and-false, and-eq-true-iff}
-use mathlib.Core.List.{List, [], _∷_, _++_}
+use mathlib.Core.List.{List, [], _∷_, _++_, map}
 use mathlib.Core.Logic.{⊎-elim, _↔_}
 use native.Mathlib.Nat.{add-zero, zero-add, sub-zero, zero-sub, sub-self, suc-sub-suc, add-mul}
 use native.Mathlib.Nat.{not-suc-le-zero, lt-of-not-le, le-of-suc-le-suc, le-of-eq, eq-zero-or-pos, le-trans, lt-of-lt-of-le, lt-of-le-of-lt, mul-le-mul-right}
@@ -18,7 +19,7 @@ use lib.Pow.{pow-add, pow-mono}
 use lib.Count.{leadingZeros, leading-top}
 use lib.ListN.{length, take, drop, getD, length-take, length-drop, take-append-drop, drop-of-length-le}
 use lib.Seq.{take-all, drop-cons, drop-drop, take-nil, drop-nil}
-use Rattle.tokens.specs.Byte.{bytes, same, isHex, digit, allHex, valueAfter, between}
+use Rattle.tokens.specs.Byte.{bytes, same, isHex, digit, allHex, valueAfter, between, fromTo}
 use Rattle.tokens.specs.Literal.{isLiteral, literalValue, bytesFrom, significant}
 use Rattle.tokens.specs.Push.{pushByte, isValuePush, pushSize, fits}
 
@@ -200,12 +201,19 @@ module _ (l : List ℕ) (long : 3 ≤ length l) where
 
 -- ---- digits and the number that they write
 
+-- the digits in their order are worth 0 to 15, the last six in capitals too
+pub digits-worth :
+    (map digit (bytes "0123456789abcdef") ≡ 0 ∷ 1 ∷ 2 ∷ 3 ∷ 4 ∷ 5 ∷ 6 ∷ 7 ∷ 8 ∷ 9 ∷ 10 ∷ 11 ∷ 12 ∷ 13 ∷ 14 ∷ 15 ∷ [])
+    × (map digit (bytes "ABCDEF") ≡ 10 ∷ 11 ∷ 12 ∷ 13 ∷ 14 ∷ 15 ∷ [])
+unfolding bytes digit
+digits-worth = (refl, refl)
+
 pub digit-lt : (c : ℕ) → digit c < 16
 unfolding digit
 digit-lt c =
-    cond-cases Below (between 48 57 c) (c - 48) _ (λ e. let h = within 48 57 c e in omega arith)
-    (λ _. cond-cases Below (between 97 102 c) (c - 87) _ (λ e. let h = within 97 102 c e in omega arith)
-    (λ _. cond-cases Below (between 65 70 c) (c - 55) 0 (λ e. let h = within 65 70 c e in omega arith) (λ _. omega arith)))
+    cond-cases Below (fromTo "0" "9" c) _ _ (λ e. let h = within (code "0") (code "9") c e in omega arith)
+    (λ _. cond-cases Below (fromTo "a" "f" c) _ _ (λ e. let h = within (code "a") (code "f") c e in omega arith)
+    (λ _. cond-cases Below (fromTo "A" "F" c) _ 0 (λ e. let h = within (code "A") (code "F") c e in omega arith) (λ _. omega arith)))
   where
     Below : ℕ → Type 0
     Below x = x < 16

@@ -13,7 +13,7 @@ use lib.Dec.{ltb, leb, eqb}
 use lib.ListN.{length, getD, take, drop, replicate, length-append, length-drop, drop-of-length-le}
 use lib.Seq.{drop-cons, take-all}
 use Rattle.tokens.proofs.Laws.{lt-or-le}
-use Rattle.tokens.specs.Byte.{bytes, same}
+use Rattle.tokens.specs.Byte.{bytes, same, numeral}
 use Rattle.tokens.specs.Name.{decimal, multiples, sized, reservedNames, oneOf, reserved}
 
 -- ---- tests
@@ -80,13 +80,13 @@ same-split (a ∷ p) d (b ∷ name) = rw (same-split p d name, and-assoc)
 
 -- a number below 1000 in three digits
 abbrev pub digits : ℕ → List ℕ
-digits m = (48 + m / 100) ∷ (48 + m / 10 % 10) ∷ (48 + m % 10) ∷ []
+digits m = numeral (m / 100) ∷ numeral (m / 10 % 10) ∷ numeral (m % 10) ∷ []
 
 -- digits brought to three by zeros in front
 pad : List ℕ → List ℕ
 pad [] = []
-pad (o ∷ []) = 48 ∷ 48 ∷ o ∷ []
-pad (t ∷ o ∷ []) = 48 ∷ t ∷ o ∷ []
+pad (o ∷ []) = numeral 0 ∷ numeral 0 ∷ o ∷ []
+pad (t ∷ o ∷ []) = numeral 0 ∷ t ∷ o ∷ []
 pad (h ∷ t ∷ o ∷ rest) = h ∷ t ∷ o ∷ rest
 
 -- the least number that has as many digits
@@ -101,14 +101,14 @@ eqb-agree a b c d f g = both (eqb a b) (eqb c d) (λ e. eq-eqb c d (f (eqb-true 
 
 -- the byte x writes the digit d, or none if d is no digit
 abbrev pub Writes : ℕ → ℕ → Type 0
-Writes x d = (k : ℕ) → k < 10 → eqb (48 + k) x ≡ eqb k d
+Writes x d = (k : ℕ) → k < 10 → eqb (numeral k) x ≡ eqb k d
 
 module _ (x d : ℕ) (writes : Writes x d) (k : ℕ) (small : k < 10) where
-  read : 48 + k ≡ x → k ≡ d
-  read e = eqb-true k d (sym (writes k small) ∙ eq-eqb (48 + k) x e)
+  read : numeral k ≡ x → k ≡ d
+  read e = eqb-true k d (sym (writes k small) ∙ eq-eqb (numeral k) x e)
 
-  write : k ≡ d → 48 + k ≡ x
-  write e = eqb-true (48 + k) x (writes k small ∙ eq-eqb k d e)
+  write : k ≡ d → numeral k ≡ x
+  write e = eqb-true (numeral k) x (writes k small ∙ eq-eqb k d e)
 
 -- three bytes write m, which is at least a bound, exactly if m is r
 pub number-is :
@@ -157,20 +157,20 @@ unfolding decimal pad least
 padded-decimal m [] q d = absurd (omega (arith, d .some-digit))
 padded-decimal m (o ∷ []) q d =
     let e = d .same-digits in
-    let x : 48 + m / 100 ≡ 48 = cc in
-    let y : 48 + m / 10 % 10 ≡ 48 = cc in
-    let z : 48 + m % 10 ≡ o = cc in
+    let x : numeral (m / 100) ≡ numeral 0 = cc in
+    let y : numeral (m / 10 % 10) ≡ numeral 0 = cc in
+    let z : numeral (m % 10) ≡ o = cc in
     let h : m < 10 = omega arith in
-    let k : 48 + m ≡ o = omega arith in
+    let k : numeral m ≡ o = omega arith in
     rw (lt-ltb m 10 h, k)
 padded-decimal m (t ∷ o ∷ []) q d =
     let e = d .same-digits in
     let g = d .no-zero in
-    let x : 48 + m / 100 ≡ 48 = cc in
-    let y : 48 + m / 10 % 10 ≡ t = cc in
-    let z : 48 + m % 10 ≡ o = cc in
+    let x : numeral (m / 100) ≡ numeral 0 = cc in
+    let y : numeral (m / 10 % 10) ≡ t = cc in
+    let z : numeral (m % 10) ≡ o = cc in
     let h : m < 100 = omega arith in
-    let k : 48 + m / 10 ≡ t = omega arith in
+    let k : numeral (m / 10) ≡ t = omega arith in
     rw (le-ltb m 10 g, lt-ltb m 100 h, k, z)
 padded-decimal m (h ∷ t ∷ o ∷ []) q d =
     let g = d .no-zero in
@@ -194,13 +194,13 @@ decimal-reads part r u v number m p q =
     (λ e. let d = subst (Padded m) (same-sound (decimal m) part e) (decimal-padded m p q) in (d .same-digits, d .no-zero)))
     ∙ number m p q
 
-pub reads-one : (part : List ℕ) (r : ℕ) → length part ≡ 1 → Number (48 ∷ 48 ∷ getD part 0 0 ∷ []) 1 r → Decimal part r
+pub reads-one : (part : List ℕ) (r : ℕ) → length part ≡ 1 → Number (numeral 0 ∷ numeral 0 ∷ getD part 0 0 ∷ []) 1 r → Decimal part r
 unfolding pad least
 reads-one [] r e n = absurd (omega arith)
 reads-one (o ∷ []) r e n = decimal-reads (o ∷ []) r (omega arith) (omega arith) n
 reads-one (o ∷ x ∷ rest) r e n = absurd (omega arith)
 
-pub reads-two : (part : List ℕ) (r : ℕ) → length part ≡ 2 → Number (48 ∷ getD part 0 0 ∷ getD part 1 0 ∷ []) 10 r → Decimal part r
+pub reads-two : (part : List ℕ) (r : ℕ) → length part ≡ 2 → Number (numeral 0 ∷ getD part 0 0 ∷ getD part 1 0 ∷ []) 10 r → Decimal part r
 unfolding pad least
 reads-two [] r e n = absurd (omega arith)
 reads-two (o ∷ []) r e n = absurd (omega arith)

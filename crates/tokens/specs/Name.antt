@@ -1,15 +1,16 @@
 -- Document 01, "Grammar of a body": the reserved type names, the port's list from the Solidity ABI specification.
-use Prim.Native.Nat.{ℕ, zero, suc, _+_, _*_, _/_, _%_}
+use Prim.Native.Nat.{ℕ, zero, suc, _*_, _/_, _%_}
 use mathlib.Core.Bool.{Bool, true, false, cond, _||_}
 use mathlib.Core.List.{List, [], _∷_, _++_, map}
 use lib.Dec.{ltb}
-use Rattle.tokens.specs.Byte.{bytes, same}
+use Rattle.tokens.specs.Byte.{bytes, same, numeral}
 
 -- the decimal digits of a number below 1000, no zero in front
 unfoldable pub decimal : ℕ → List ℕ
 decimal n =
-    cond (ltb n 10) ((48 + n) ∷ [])
-    (cond (ltb n 100) ((48 + n / 10) ∷ (48 + n % 10) ∷ []) ((48 + n / 100) ∷ (48 + n / 10 % 10) ∷ (48 + n % 10) ∷ []))
+    cond (ltb n 10) (numeral n ∷ [])
+    (cond (ltb n 100) (numeral (n / 10) ∷ numeral (n % 10) ∷ [])
+    (numeral (n / 100) ∷ numeral (n / 10 % 10) ∷ numeral (n % 10) ∷ []))
 
 -- step, 2 step, .. , n times step, the largest first
 unfoldable pub multiples : ℕ → ℕ → List ℕ

@@ -16,6 +16,8 @@ pub use lent::clear_behind;
 pub use lent::put_record;
 pub use lent::start_of;
 pub use literal::all_hex;
+pub use literal::digit_value;
+pub use literal::is_hex;
 pub use literal::significant_bytes;
 pub use name::is_reserved;
 pub use name::same_name;

@@ -6,36 +6,25 @@ ghost use Rattle.tokens.specs.Byte.{isHex, digit, allHex, valueAfter};
 ghost use Rattle.tokens.specs.Literal.{isLiteral, literalValue, significant};
 
 // A hex digit of either case. No branch: which range a byte lies in can't be foreseen.
-fn is_hex(c: u8) -> bool
+pub fn is_hex(c: u8) -> bool
     ensures { λ r. ⌜ r ≡ isHex c ⌝ }
 {
-    ((48 <= c) & (c <= 57)) | ((97 <= c) & (c <= 102)) | ((65 <= c) & (c <= 70))
+    let decimal = (b'0' <= c) & (c <= b'9');
+    let small = (b'a' <= c) & (c <= b'f');
+    let capital = (b'A' <= c) & (c <= b'F');
+    decimal | small | capital
 }
 
 // What a hex digit is worth; any other byte 0.
-fn digit_value(c: u8) -> u64
+pub fn digit_value(c: u8) -> u64
     ensures { λ r. ⌜ r ≡ digit c ⌝ }
 {
-    let d = c as u64;
-    if d < 48 {
-        return 0;
+    match c {
+        b'0'..=b'9' => (c - b'0') as u64,
+        b'a'..=b'f' => (c - b'a' + 10) as u64,
+        b'A'..=b'F' => (c - b'A' + 10) as u64,
+        _ => 0,
     }
-    if d <= 57 {
-        return d - 48;
-    }
-    if d < 65 {
-        return 0;
-    }
-    if d <= 70 {
-        return d - 55;
-    }
-    if d < 97 {
-        return 0;
-    }
-    if d <= 102 {
-        return d - 87;
-    }
-    0
 }
 
 // Every byte is a hex digit. All are looked at, many at once where the machine can: a text that has another is the rare case.

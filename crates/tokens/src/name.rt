@@ -1,10 +1,10 @@
 // Names: equality byte for byte, and the reserved type names.
-ghost use Prim.Native.Nat.{ℕ, _+_, _/_, _%_, _<_, _≤_};
+ghost use Prim.Native.Nat.{ℕ, _/_, _%_, _<_, _≤_};
 ghost use mathlib.Core.Path.{_≡_};
 ghost use mathlib.Core.Bool.{_&&_};
 ghost use mathlib.Core.List.{[], _∷_, _++_};
 ghost use lib.Dec.{leb, eqb};
-ghost use Rattle.tokens.specs.Byte.{same};
+ghost use Rattle.tokens.specs.Byte.{same, numeral};
 ghost use Rattle.tokens.specs.Name.{decimal, multiples, sized, oneOf, reserved};
 
 // Equal byte for byte.
@@ -26,21 +26,18 @@ pub fn same_name(a: &[u8], b: &[u8]) -> bool
 
 // The digit that a byte writes, or 10 if it writes none.
 fn digit_of(c: u8) -> usize
-    ensures { λ r. ⌜ (r ≤ 10) × ((d : ℕ) → d < 10 → eqb (48 + d) c ≡ eqb d r) ⌝ }
+    ensures { λ r. ⌜ (r ≤ 10) × ((d : ℕ) → d < 10 → eqb (numeral d) c ≡ eqb d r) ⌝ }
 {
-    if c < b'0' {
-        return 10;
+    match c {
+        b'0'..=b'9' => (c - b'0') as usize,
+        _ => 10,
     }
-    if b'9' < c {
-        return 10;
-    }
-    (c - b'0') as usize
 }
 
 // The number whose three digits these are, if it is at least `least`; else 0. So `least` keeps out zeros in front.
 fn number(h: u8, t: u8, o: u8, least: usize) -> usize
     ensures { λ r. ⌜ (r < 1000) × ((m : ℕ) → 0 < m → m < 1000
-        → (same ((48 + m / 100) ∷ (48 + m / 10 % 10) ∷ (48 + m % 10) ∷ []) (h ∷ t ∷ o ∷ []) && leb least m) ≡ eqb m r) ⌝ }
+        → (same (numeral (m / 100) ∷ numeral (m / 10 % 10) ∷ numeral (m % 10) ∷ []) (h ∷ t ∷ o ∷ []) && leb least m) ≡ eqb m r) ⌝ }
 {
     let a = digit_of(h);
     let b = digit_of(t);
