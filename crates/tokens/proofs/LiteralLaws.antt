@@ -1,10 +1,10 @@
 -- Laws of values: hex digits and the number that they write, the significant bytes of a number, and the value pushes that it fits.
--- The promises of the product are `digits-worth`, `significant-holds`, `-least`, `-between` and `-zero`, `literal-value-whole`, `fits-value` and `yellow-paper` with its
+-- The promises of the product are `digits-worth`, `hex-digits`, `no-worth`, `significant-holds`, `-least`, `-between` and `-zero`, `literal-value-whole`, `fits-value` and `yellow-paper` with its
 -- converse; the rest serves the proofs of the code. Assumes nothing.
 use Prim.Native.Char.{code}
 use Prim.Native.Nat.{ℕ, zero, suc, _+_, _-_, _*_, _/_, _%_, _^_, _≤_, _<_, min, max}
 use mathlib.Core.Path.{_≡_, refl, sym, ap, _∙_}
-use mathlib.Core.Bool.{Bool, true, false, cond, not, _&&_, and-true, and-false, and-eq-true-iff}
+use mathlib.Core.Bool.{Bool, true, false, cond, not, _&&_, _||_, and-true, and-false, and-eq-true-iff, false≢true}
 use mathlib.Core.List.{List, [], _∷_, _++_, map}
 use mathlib.Core.Logic.{⊎-elim, _↔_}
 use native.Mathlib.Nat.{add-zero, zero-add, sub-zero, zero-sub, sub-self, suc-sub-suc, add-mul}
@@ -207,6 +207,24 @@ pub digits-worth :
     × (map digit (bytes "ABCDEF") ≡ 10 ∷ 11 ∷ 12 ∷ 13 ∷ 14 ∷ 15 ∷ [])
 unfolding bytes digit
 digits-worth = (refl, refl)
+
+-- they are hex digits, and the characters next to the three ranges are none
+pub hex-digits :
+    (allHex (bytes "0123456789abcdefABCDEF") ≡ true)
+    × (map isHex (bytes "/:`g@G") ≡ false ∷ false ∷ false ∷ false ∷ false ∷ false ∷ [])
+unfolding bytes allHex isHex
+hex-digits = (refl, refl)
+
+-- what is no hex digit is worth nothing: both definitions have the same ranges
+pub no-worth : (c : ℕ) → isHex c ≡ false → digit c ≡ 0
+unfolding isHex digit
+no-worth c = go (fromTo "0" "9" c) (fromTo "a" "f" c) (fromTo "A" "F" c) _ _ _
+  where
+    go : (decimal small capital : Bool) (k m n : ℕ) → (decimal || small || capital) ≡ false → cond decimal k (cond small m (cond capital n 0)) ≡ 0
+    go false false false k m n e = refl
+    go false false true k m n e = absurd (false≢true (sym e))
+    go false true capital k m n e = absurd (false≢true (sym e))
+    go true small capital k m n e = absurd (false≢true (sym e))
 
 pub digit-lt : (c : ℕ) → digit c < 16
 unfolding digit
