@@ -215,7 +215,7 @@ pub hex-digits :
 unfolding bytes allHex isHex
 hex-digits = (refl, refl)
 
--- what is no hex digit is worth nothing: both definitions have the same ranges
+-- what is no hex digit is worth nothing: `digit` has no range that `isHex` lacks
 pub no-worth : (c : ℕ) → isHex c ≡ false → digit c ≡ 0
 unfolding isHex digit
 no-worth c = go (fromTo "0" "9" c) (fromTo "a" "f" c) (fromTo "A" "F" c) _ _ _
