@@ -294,18 +294,25 @@ static uint32_t significant_bytes(const struct call *c, uint32_t place)
     return at == word[2] ? 1 : (word[2] - at + 1) / 2;
 }
 
+/* A push's operand is the next record: a label's inner records end at the next label's. */
 static uint64_t plain_length(const struct call *c, uint64_t statements)
 {
     uint64_t length = 0;
-    bool in_label = false;
     for (uint64_t i = 0; i < statements; i++) {
         const uint32_t *s = c->statements + STATEMENT * i;
-        uint32_t pushed = i > 0 && !in_label ? pushed_bytes(c, s - STATEMENT) : 0;
+        uint32_t pushed = pushed_bytes(c, s);
+        if (pushed != 0) {
+            const uint32_t *operand = s + STATEMENT;
+            if (++i == statements || operand[0] != 1 || significant_bytes(c, operand[7]) > pushed)
+                return NONE;
+            length += 1 + pushed;
+            continue;
+        }
         switch (s[0]) {
-        case 1: length += pushed != 0 ? pushed : 1 + significant_bytes(c, s[7]); break;
+        case 1: length += 1 + significant_bytes(c, s[7]); break;
         case 2: length += 1; break;
         case 3: length += 3; break;
-        case 5: length += 1; in_label = true; break;
+        case 5: length += 1; break;
         default: return NONE;
         }
     }

@@ -197,7 +197,7 @@ class Maker:
         return out + [T("}")]
 
     def plain_body(self):
-        """A body whose plain length is a number."""
+        """A body of statements that have a length; now and then a push in a label lacks its operand."""
         out = [T("{")]
         for _ in range(self.r.randint(0, 5)):
             out += self.plain_item(False)
@@ -209,9 +209,8 @@ class Maker:
 
     def plain_item(self, in_label):
         byte = self.push()
-        if in_label:
-            return self.some([self.literal()], [self.opcode()], [self.ident()], [self.opcode(byte)],
-                             [self.opcode(byte), self.literal()])
+        if in_label and self.likely(0.1):
+            return self.some([self.opcode(byte)], [self.opcode(byte), self.literal()])
         return self.some([self.literal()], [self.opcode()], [self.ident()],
                          [self.opcode(byte), self.literal(byte - 0x5f)])
 

@@ -114,7 +114,6 @@ class Reading:
         self.definitions = []
         self.statements = []
         self.arguments = []
-        self.length = 0
         self.names = set()
 
     # Single tokens.
@@ -155,7 +154,6 @@ class Reading:
         arguments_before = len(self.arguments)
         first = self.need(LABEL)
         self.need(COLON)
-        self.lengthen(1)
         while self.here() not in (LABEL, CLOSE_BRACE):
             self.item(in_label=True)
         inner = len(self.statements) - own - 1
@@ -167,46 +165,38 @@ class Reading:
         if kind == LITERAL:
             self.place += 1
             self.statement(1, first, first)
-            self.lengthen(1 + significant_bytes(self.texts[first]))
         elif kind == OPCODE:
             self.place += 1
             self.statement(2, first, first)
-            self.lengthen(1)
             n = pushed_bytes(self.extras[first])
             if n > 0 and not in_label:
                 operand = self.need(LITERAL, INVALID_PUSH)
                 if significant_bytes(self.texts[operand]) > n:
                     self.refuse(INVALID_PUSH)
                 self.statement(1, operand, operand)
-                self.lengthen(n)
         elif kind == IDENT:
             self.place += 1
             if self.here() == OPEN_PAREN:
                 arguments_before = len(self.arguments)
                 self.call_list()
                 self.statement(4, first, first, arguments_before)
-                self.length = NONE
             else:
                 self.statement(3, first, first)
-                self.lengthen(3)
         elif kind == OPEN_BRACKET:
             self.place += 1
             name = self.need(IDENT, INVALID_CONSTANT)
             self.need(CLOSE_BRACKET)
             self.statement(6, first, name)
-            self.length = NONE
         elif kind == LEFT_ANGLE:
             self.place += 1
             name = self.need(IDENT, INVALID_ARG_CALL)
             self.need(RIGHT_ANGLE)
             self.statement(7, first, name)
-            self.length = NONE
         elif kind == BUILTIN:
             self.place += 1
             arguments_before = len(self.arguments)
             self.untyped_list(builtin=True)
             self.statement(8, first, first, arguments_before)
-            self.length = NONE
         else:
             self.refuse(INVALID_IN_LABEL if in_label else INVALID_IN_MACRO)
 
@@ -219,9 +209,36 @@ class Reading:
         self.statements.append((kind, first, self.place, own + 1, 0, arguments_before,
                                 so_far - arguments_before, place))
 
-    def lengthen(self, by):
-        if self.length != NONE:
-            self.length += by
+    def plain_length(self):
+        """Of the body that was read, by its statements' records: the macro part's and each label's."""
+        parts = [[]]
+        for record in self.statements:
+            if record[0] == 5:
+                parts.append([])
+            else:
+                parts[-1].append(record)
+        lengths = [self.part_length(part) for part in parts]
+        return NONE if NONE in lengths else len(parts) - 1 + sum(lengths)
+
+    def part_length(self, part):
+        """The bytes of statements that are no labels; request [3]: a value push has its operand directly behind it."""
+        length = 0
+        rest = iter(part)
+        for kind, *_, place in rest:
+            if kind == 1:
+                length += 1 + significant_bytes(self.texts[place])
+            elif kind == 2:
+                n = pushed_bytes(self.extras[place])
+                if n > 0:
+                    behind, *_, operand = next(rest, (0, 0))
+                    if behind != 1 or significant_bytes(self.texts[operand]) > n:
+                        return NONE
+                length += 1 + n
+            elif kind == 3:
+                length += 3
+            else:
+                return NONE
+        return length
 
     # Lists.
 
@@ -498,7 +515,7 @@ def answer(mode, start, lengths, text, words, reading=Reading):
         lists[i][:len(flat)] = flat
     counts = [len(records) for _, _, records in tables]
     if mode == "B":
-        return (0, found.place, counts[1], counts[2], found.length), lists
+        return (0, found.place, counts[1], counts[2], found.plain_length()), lists
     return (0, found.place, *counts), lists
 
 

@@ -71,7 +71,9 @@ enum simmerotter_answer {
     SIMMEROTTER_FILE_ARGUMENTS = 4,
     SIMMEROTTER_BODY_STATEMENTS = 2,
     SIMMEROTTER_BODY_ARGUMENTS = 3,
-    SIMMEROTTER_BODY_PLAIN_LENGTH = 4 /* bytes of code, or SIMMEROTTER_NONE */
+    /* Bytes of code; SIMMEROTTER_NONE if the body holds more than literals, opcodes, labels and label calls, or if a
+     * value push in a label has no literal that fits directly behind it, in the same label. */
+    SIMMEROTTER_BODY_PLAIN_LENGTH = 4
 };
 
 /* Why input was refused. For 1 to 21 the cursor is a place. */

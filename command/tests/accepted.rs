@@ -110,6 +110,21 @@ line:col  places        what
 }
 
 #[test]
+fn a_push_in_a_label_has_its_operand_or_the_body_no_length() {
+    let rows = [
+        ("{ go : push4 0x01 }", "plain length 6"),
+        ("{ push1 0x01 go : push2 0x0001 x }", "plain length 9"),
+        ("{ go : push1 }", "no plain length"),
+        ("{ go : push1 0x0100 }", "no plain length"),
+        ("{ go : push1 b : 0x01 }", "no plain length"),
+    ];
+    for (text, length) in rows {
+        let found = body("accepted_operand", text);
+        assert!(found.lines().next().unwrap().contains(&format!(", {};", length)), "{}: {}", text, found);
+    }
+}
+
+#[test]
 fn a_body_may_start_anywhere() {
     let text = "#define macro M ( ) = { stop }";
     let input = Input::new("accepted_start", text.as_bytes(), &cut(text));

@@ -44,7 +44,8 @@ impl<'a> Body<'a> {
         self.end
     }
 
-    /// The bytes of code that the body makes, if it has only literals, opcodes, labels and label calls.
+    /// The bytes of code that the body makes. `None` if it holds more than literals, opcodes, labels and label calls, or
+    /// if a value push in a label has no literal that fits directly behind it, in the same label.
     pub fn plain_length(self) -> Option<u64> {
         self.plain_length
     }

@@ -214,9 +214,20 @@ fn a_refusal_leads_to_its_token() {
 #[test]
 fn plain_lengths_are_counted_where_there_are_any() {
     let mut room = Room::new();
-    for (body, length) in [("{ }", Some(0)), ("{ op63 0x01 }", Some(5)), ("{ go ~go : 0x0100 }", Some(7)), ("{ F ( ) }", None)] {
+    let rows = [
+        ("{ }", Some(0)),
+        ("{ op63 0x01 }", Some(5)),
+        ("{ go ~go : 0x0100 }", Some(7)),
+        ("{ F ( ) }", None),
+        // A push in a label has its operand directly behind it, or the body has no length.
+        ("{ ~go : op63 0x01 }", Some(6)),
+        ("{ ~go : op60 0x01 0x01 }", Some(5)),
+        ("{ ~go : op60 0x0100 }", None),
+        ("{ ~go : op60 ~b : 0x01 }", None),
+    ];
+    for (body, length) in rows {
         let source = Source::of_lines(&[body]);
-        assert_eq!(room.read_body(&source.text, &source.tokens, 0).map(|body| body.plain_length()), Ok(length));
+        assert_eq!(room.read_body(&source.text, &source.tokens, 0).map(|body| body.plain_length()), Ok(length), "{}", body);
     }
 }
 

@@ -5,6 +5,7 @@ pub mod Holds
 pub mod Sound
 pub mod Complete
 pub mod Demand
+pub mod Operands
 pub mod Recorded
 pub mod Places
 pub mod Stops

@@ -78,7 +78,7 @@ rows =
     -- { PUSH1 }
     ∷ refusedRow (PUSH1 ∷ []) 4 2
     -- { go : PUSH1 }
-    ∷ acceptedRow (word Label "go" ∷ mark Colon ∷ PUSH1 ∷ []) (5 ∷ 2 ∷ 0 ∷ 2 ∷ [])
+    ∷ acceptedRow (word Label "go" ∷ mark Colon ∷ PUSH1 ∷ []) (5 ∷ 2 ∷ 0 ∷ NONE ∷ [])
     ((5 ∷ 1 ∷ 4 ∷ 1 ∷ 1 ∷ 0 ∷ 0 ∷ 1 ∷ []) ∷ (2 ∷ 3 ∷ 4 ∷ 2 ∷ 0 ∷ 0 ∷ 0 ∷ 3 ∷ []) ∷ [])
     []
     -- { a : b : }
@@ -126,13 +126,37 @@ others =
     ∷ acceptedRow (word Ident "F" ∷ mark OpenParen ∷ word Ident "b" ∷ mark CloseParen ∷ word Label "l" ∷ mark Colon ∷ word Ident "G" ∷ mark OpenParen ∷ word Ident "c" ∷ mark CloseParen ∷ []) (12 ∷ 3 ∷ 2 ∷ NONE ∷ [])
     ((4 ∷ 1 ∷ 5 ∷ 1 ∷ 0 ∷ 0 ∷ 1 ∷ 1 ∷ []) ∷ (5 ∷ 5 ∷ 11 ∷ 2 ∷ 1 ∷ 1 ∷ 0 ∷ 5 ∷ []) ∷ (4 ∷ 7 ∷ 11 ∷ 3 ∷ 0 ∷ 1 ∷ 1 ∷ 7 ∷ []) ∷ [])
     ((5 ∷ NONE ∷ 3 ∷ 0 ∷ 0 ∷ 3 ∷ 4 ∷ []) ∷ (5 ∷ NONE ∷ 9 ∷ 0 ∷ 0 ∷ 9 ∷ 10 ∷ []) ∷ [])
-    -- { 0x00 PUSH2 0x01 0x01 a l : PUSH2 0x01 b }: the literal directly behind a push in the macro part counts n
+    -- { 0x00 PUSH2 0x01 0x01 a l : PUSH2 0x01 b }: the literal directly behind a push counts n
     ∷ acceptedRow (word Literal "0x00" ∷ byte 0x61 ∷ word Literal "0x01" ∷ word Literal "0x01" ∷ word Ident "a" ∷ word Label "l" ∷ mark Colon ∷ byte 0x61 ∷ word Literal "0x01" ∷ word Ident "b" ∷ []) (12 ∷ 9 ∷ 0 ∷ 17 ∷ [])
     ((1 ∷ 1 ∷ 2 ∷ 1 ∷ 0 ∷ 0 ∷ 0 ∷ 1 ∷ []) ∷ (2 ∷ 2 ∷ 3 ∷ 2 ∷ 0 ∷ 0 ∷ 0 ∷ 2 ∷ []) ∷ (1 ∷ 3 ∷ 4 ∷ 3 ∷ 0 ∷ 0 ∷ 0 ∷ 3 ∷ []) ∷ (1 ∷ 4 ∷ 5 ∷ 4 ∷ 0 ∷ 0 ∷ 0 ∷ 4 ∷ []) ∷ (3 ∷ 5 ∷ 6 ∷ 5 ∷ 0 ∷ 0 ∷ 0 ∷ 5 ∷ []) ∷ (5 ∷ 6 ∷ 11 ∷ 6 ∷ 3 ∷ 0 ∷ 0 ∷ 6 ∷ []) ∷ (2 ∷ 8 ∷ 9 ∷ 7 ∷ 0 ∷ 0 ∷ 0 ∷ 8 ∷ []) ∷ (1 ∷ 9 ∷ 10 ∷ 8 ∷ 0 ∷ 0 ∷ 0 ∷ 9 ∷ []) ∷ (3 ∷ 10 ∷ 11 ∷ 9 ∷ 0 ∷ 0 ∷ 0 ∷ 10 ∷ []) ∷ [])
     ([])
-    -- { go : PUSH4 0x01 }: in a label no literal is a push's
-    ∷ acceptedRow (word Label "go" ∷ mark Colon ∷ byte 0x63 ∷ word Literal "0x01" ∷ []) (6 ∷ 3 ∷ 0 ∷ 4 ∷ [])
+    -- { go : PUSH4 0x01 }: a label's push has its operand too
+    ∷ acceptedRow (word Label "go" ∷ mark Colon ∷ byte 0x63 ∷ word Literal "0x01" ∷ []) (6 ∷ 3 ∷ 0 ∷ 6 ∷ [])
     ((5 ∷ 1 ∷ 5 ∷ 1 ∷ 2 ∷ 0 ∷ 0 ∷ 1 ∷ []) ∷ (2 ∷ 3 ∷ 4 ∷ 2 ∷ 0 ∷ 0 ∷ 0 ∷ 3 ∷ []) ∷ (1 ∷ 4 ∷ 5 ∷ 3 ∷ 0 ∷ 0 ∷ 0 ∷ 4 ∷ []) ∷ [])
+    []
+    -- { go : PUSH1 0x0100 }: it doesn't fit
+    ∷ acceptedRow (word Label "go" ∷ mark Colon ∷ PUSH1 ∷ word Literal "0x0100" ∷ []) (6 ∷ 3 ∷ 0 ∷ NONE ∷ [])
+    ((5 ∷ 1 ∷ 5 ∷ 1 ∷ 2 ∷ 0 ∷ 0 ∷ 1 ∷ []) ∷ (2 ∷ 3 ∷ 4 ∷ 2 ∷ 0 ∷ 0 ∷ 0 ∷ 3 ∷ []) ∷ (1 ∷ 4 ∷ 5 ∷ 3 ∷ 0 ∷ 0 ∷ 0 ∷ 4 ∷ []) ∷ [])
+    []
+    -- { go : PUSH1 0x01 0x01 }: only the one directly behind the push
+    ∷ acceptedRow (word Label "go" ∷ mark Colon ∷ PUSH1 ∷ word Literal "0x01" ∷ word Literal "0x01" ∷ []) (7 ∷ 4 ∷ 0 ∷ 5 ∷ [])
+    ((5 ∷ 1 ∷ 6 ∷ 1 ∷ 3 ∷ 0 ∷ 0 ∷ 1 ∷ []) ∷ (2 ∷ 3 ∷ 4 ∷ 2 ∷ 0 ∷ 0 ∷ 0 ∷ 3 ∷ []) ∷ (1 ∷ 4 ∷ 5 ∷ 3 ∷ 0 ∷ 0 ∷ 0 ∷ 4 ∷ []) ∷ (1 ∷ 5 ∷ 6 ∷ 4 ∷ 0 ∷ 0 ∷ 0 ∷ 5 ∷ []) ∷ [])
+    []
+    -- { go : PUSH1 x 0x01 }: not behind another statement
+    ∷ acceptedRow (word Label "go" ∷ mark Colon ∷ PUSH1 ∷ word Ident "x" ∷ word Literal "0x01" ∷ []) (7 ∷ 4 ∷ 0 ∷ NONE ∷ [])
+    ((5 ∷ 1 ∷ 6 ∷ 1 ∷ 3 ∷ 0 ∷ 0 ∷ 1 ∷ []) ∷ (2 ∷ 3 ∷ 4 ∷ 2 ∷ 0 ∷ 0 ∷ 0 ∷ 3 ∷ []) ∷ (3 ∷ 4 ∷ 5 ∷ 3 ∷ 0 ∷ 0 ∷ 0 ∷ 4 ∷ []) ∷ (1 ∷ 5 ∷ 6 ∷ 4 ∷ 0 ∷ 0 ∷ 0 ∷ 5 ∷ []) ∷ [])
+    []
+    -- { go : PUSH1 b : 0x01 }: not behind the next label
+    ∷ acceptedRow (word Label "go" ∷ mark Colon ∷ PUSH1 ∷ word Label "b" ∷ mark Colon ∷ word Literal "0x01" ∷ []) (8 ∷ 4 ∷ 0 ∷ NONE ∷ [])
+    ((5 ∷ 1 ∷ 4 ∷ 1 ∷ 1 ∷ 0 ∷ 0 ∷ 1 ∷ []) ∷ (2 ∷ 3 ∷ 4 ∷ 2 ∷ 0 ∷ 0 ∷ 0 ∷ 3 ∷ []) ∷ (5 ∷ 4 ∷ 7 ∷ 3 ∷ 1 ∷ 0 ∷ 0 ∷ 4 ∷ []) ∷ (1 ∷ 6 ∷ 7 ∷ 4 ∷ 0 ∷ 0 ∷ 0 ∷ 6 ∷ []) ∷ [])
+    []
+    -- { go : PUSH0 0x01 }: PUSH0 is no value push
+    ∷ acceptedRow (word Label "go" ∷ mark Colon ∷ byte 0x5f ∷ word Literal "0x01" ∷ []) (6 ∷ 3 ∷ 0 ∷ 4 ∷ [])
+    ((5 ∷ 1 ∷ 5 ∷ 1 ∷ 2 ∷ 0 ∷ 0 ∷ 1 ∷ []) ∷ (2 ∷ 3 ∷ 4 ∷ 2 ∷ 0 ∷ 0 ∷ 0 ∷ 3 ∷ []) ∷ (1 ∷ 4 ∷ 5 ∷ 3 ∷ 0 ∷ 0 ∷ 0 ∷ 4 ∷ []) ∷ [])
+    []
+    -- { PUSH1 0x01 go : PUSH2 0x0001 x }
+    ∷ acceptedRow (PUSH1 ∷ word Literal "0x01" ∷ word Label "go" ∷ mark Colon ∷ byte 0x61 ∷ word Literal "0x0001" ∷ word Ident "x" ∷ []) (9 ∷ 6 ∷ 0 ∷ 9 ∷ [])
+    ((2 ∷ 1 ∷ 2 ∷ 1 ∷ 0 ∷ 0 ∷ 0 ∷ 1 ∷ []) ∷ (1 ∷ 2 ∷ 3 ∷ 2 ∷ 0 ∷ 0 ∷ 0 ∷ 2 ∷ []) ∷ (5 ∷ 3 ∷ 8 ∷ 3 ∷ 3 ∷ 0 ∷ 0 ∷ 3 ∷ []) ∷ (2 ∷ 5 ∷ 6 ∷ 4 ∷ 0 ∷ 0 ∷ 0 ∷ 5 ∷ []) ∷ (1 ∷ 6 ∷ 7 ∷ 5 ∷ 0 ∷ 0 ∷ 0 ∷ 6 ∷ []) ∷ (3 ∷ 7 ∷ 8 ∷ 6 ∷ 0 ∷ 0 ∷ 0 ∷ 7 ∷ []) ∷ [])
     []
     -- { [ X ] < x > }
     ∷ acceptedRow (mark OpenBracket ∷ word Ident "X" ∷ mark CloseBracket ∷ mark LeftAngle ∷ word Ident "x" ∷ mark RightAngle ∷ []) (8 ∷ 2 ∷ 0 ∷ NONE ∷ [])

@@ -1,32 +1,62 @@
--- Document 01, "Plain length, added": the bytes of a body.
+-- Document 01, "Plain length, added", with request [3] of document 02: the bytes of a body.
 use Prim.Native.Nat.{ℕ, suc, _+_}
-use mathlib.Core.Bool.{Bool, true, false, cond, _&&_}
-use mathlib.Core.List.{List, [], _∷_}
+use mathlib.Core.Bool.{Bool, true, false, cond, not, _&&_, _||_}
+use mathlib.Core.List.{List, [], _∷_, _++_, map, flatten}
 use lib.Dec.{eqb}
+use lib.ListN.{length}
 use Rattle.tokens.specs.Token.{Token}
-use Rattle.tokens.specs.Push.{isValuePush, pushSize}
+use Rattle.tokens.specs.Push.{isValuePush, pushSize, fits}
 use Rattle.tokens.specs.Literal.{literalValue, significant}
 use Rattle.grammar.specs.Reading.{Simple, Group, Reading, Sort, NONE, aLiteral, anOpcode, aLabelCall, anInvocation, aConstant, anArgumentCall, aBuiltin}
+use Rattle.grammar.specs.Records.{typeOf}
 
--- the bytes that a value push asks of the literal directly after it; 0 behind any other statement
-abbrev pub awaitedBy : Sort → Token → ℕ
-awaitedBy anOpcode t = cond (isValuePush (t .extra)) (pushSize (t .extra)) 0
-awaitedBy aLiteral t = 0
-awaitedBy aLabelCall t = 0
-awaitedBy anInvocation t = 0
-awaitedBy aConstant t = 0
-awaitedBy anArgumentCall t = 0
-awaitedBy aBuiltin t = 0
+-- a statement of this sort
+abbrev pub isA : Sort → Simple → Bool
+isA sort s = eqb (typeOf (s .sort)) (typeOf sort)
 
--- "opcode 1; label call 3; literal directly after a value push n; any other literal 1 plus its significant bytes", where n bytes are awaited (0: none)
-abbrev pub bytesOf : Sort → ℕ → Token → ℕ
-bytesOf aLiteral n t = cond (eqb n 0) (suc (significant (literalValue (t .text)))) n
-bytesOf anOpcode n t = 1
-bytesOf aLabelCall n t = 3
-bytesOf anInvocation n t = 0
-bytesOf aConstant n t = 0
-bytesOf anArgumentCall n t = 0
-bytesOf aBuiltin n t = 0
+-- a value push
+abbrev pub valuePush : Simple → Bool
+valuePush s = isA anOpcode s && isValuePush (s .token .extra)
+
+-- the operand of a push s: "a literal directly after a value push .. if it fits". l is the statement directly after s
+abbrev pub isOperand : Simple → Simple → Bool
+isOperand s l = valuePush s && isA aLiteral l && fits (s .token .extra) (l .token .text)
+
+-- a statement, with its operand or without; an operand is no step of its own
+pub record Step : Type 0 where
+  pub statement : Simple
+  pub withOperand : Bool
+
+-- the steps of a macro part or of a label
+unfoldable pub steps : List Simple → List Step
+steps [] = []
+steps (s ∷ []) = record { statement = s; withOperand = false } ∷ []
+steps (s ∷ l ∷ ss) =
+    cond (isOperand s l) (record { statement = s; withOperand = true } ∷ steps ss)
+    (record { statement = s; withOperand = false } ∷ steps (l ∷ ss))
+
+-- of a body, part by part: an operand stands "in the same label"
+unfoldable pub bodySteps : Reading → List Step
+bodySteps r = steps (r .main) ++ flatten (map (λ (g : Group). steps (g .inner)) (r .groups))
+
+-- "opcode 1; .. label call 3; .. any other literal 1 plus its significant bytes"
+abbrev pub ownBytes : Sort → Token → ℕ
+ownBytes aLiteral t = suc (significant (literalValue (t .text)))
+ownBytes anOpcode t = 1
+ownBytes aLabelCall t = 3
+ownBytes anInvocation t = 0
+ownBytes aConstant t = 0
+ownBytes anArgumentCall t = 0
+ownBytes aBuiltin t = 0
+
+-- an operand "counts n"
+abbrev pub stepBytes : Step → ℕ
+stepBytes x = ownBytes (x .statement .sort) (x .statement .token) + cond (x .withOperand) (pushSize (x .statement .token .extra)) 0
+
+-- their bytes together
+unfoldable pub totalBytes : List Step → ℕ
+totalBytes [] = 0
+totalBytes (x ∷ xs) = stepBytes x + totalBytes xs
 
 -- "If any other statement occurs, NONE": these three have a length
 abbrev pub measured : Sort → Bool
@@ -38,32 +68,19 @@ measured aConstant = false
 measured anArgumentCall = false
 measured aBuiltin = false
 
--- the macro part, where n bytes are awaited of a literal that comes first
-unfoldable pub mainBytes : ℕ → List Simple → ℕ
-mainBytes n [] = 0
-mainBytes n (s ∷ ss) = bytesOf (s .sort) n (s .token) + mainBytes (awaitedBy (s .sort) (s .token)) ss
+-- "if not, or if none follows the push, the length is NONE": a value push is complete only with its operand
+abbrev pub complete : Step → Bool
+complete x = x .withOperand || not (valuePush (x .statement))
 
--- a label's items: no literal is a push's
-unfoldable pub innerBytes : List Simple → ℕ
-innerBytes [] = 0
-innerBytes (s ∷ ss) = bytesOf (s .sort) 0 (s .token) + innerBytes ss
+-- a step that has a length
+abbrev pub hasLength : Step → Bool
+hasLength x = measured (x .statement .sort) && complete x
 
--- "label 1 plus its items"
-unfoldable pub groupBytes : List Group → ℕ
-groupBytes [] = 0
-groupBytes (g ∷ gs) = suc (innerBytes (g .inner)) + groupBytes gs
+-- every one of these steps passes a test
+unfoldable pub every : (Step → Bool) → List Step → Bool
+every test [] = true
+every test (x ∷ xs) = test x && every test xs
 
--- every statement of a list has one
-unfoldable pub allMeasured : List Simple → Bool
-allMeasured [] = true
-allMeasured (s ∷ ss) = measured (s .sort) && allMeasured ss
-
--- every statement inside the labels has one
-unfoldable pub groupsMeasured : List Group → Bool
-groupsMeasured [] = true
-groupsMeasured (g ∷ gs) = allMeasured (g .inner) && groupsMeasured gs
-
--- the plain length of a body
+-- the plain length of a body: "label 1 plus its items", so 1 for each label, and the bytes of all steps
 unfoldable pub plainLength : Reading → ℕ
-plainLength r =
-    cond (allMeasured (r .main) && groupsMeasured (r .groups)) (mainBytes 0 (r .main) + groupBytes (r .groups)) NONE
+plainLength r = cond (every hasLength (bodySteps r)) (length (r .groups) + totalBytes (bodySteps r)) NONE

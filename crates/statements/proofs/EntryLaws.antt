@@ -120,7 +120,7 @@ body-read text words kept start st ar {st₁} {ar₁} {st₂} {ar₂} {x} {r} v 
         let v′ = rw e at v in
         let w′ = rw (v′ .is) at w in
         let long : lengthFrom (view text words kept) start ≡ plainLength rd =
-        length-is (view text words kept) start k rd (body-exactly base (view text words kept) start k rd .0 (ap answer e)) in
+        length-is base (view text words kept) start k rd (body-exactly base (view text words kept) start k rd .0 (ap answer e)) in
         let is : r ≡ settledItems (items.Done (endProgress st ar rd start k)) (plainLength rd) (length st) (length ar) =
         w′ .answer ∙ rw (ls, la, long, zero-add (statementCount rd), zero-add (argumentCount rd)) in
         let told = settled-answers st ar rd start k (v′ .statementsHold) (v′ .argumentsHold) ls la in

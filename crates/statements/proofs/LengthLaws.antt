@@ -1,26 +1,27 @@
--- The plain length that the code adds up, token by token, is document 01's plain length of the body's reading. Assumes nothing.
+-- The plain length that the code adds up, token by token, is the plain length of the body's reading, under any rule set. Assumes nothing.
 use Prim.Native.Nat.{ℕ, zero, suc, _+_, _≤_, _<_}
 use native.Mathlib.Nat.{add-zero, add-assoc, zero-add}
 use native.Mathlib.Numerals.{add-one}
 use native.Mathlib.Omega.{arith}
-use mathlib.Core.Path.{_≡_, refl, sym, ap, _∙_}
+use mathlib.Core.Path.{_≡_, refl, sym, ap, subst, _∙_}
 use mathlib.Core.Logic.{⊎-elim}
-use mathlib.Core.Bool.{Bool, true, false, cond, not, _&&_, and-assoc, and-eq-true-iff, true≢false}
-use mathlib.Core.List.{List, [], _∷_, _++_, append-assoc, flatten}
+use mathlib.Core.Bool.{Bool, true, false, cond, not, _&&_, _||_, and-assoc, and-true, and-false, and-eq-true-iff, true≢false}
+use mathlib.Core.List.{List, [], _∷_, _++_, append-assoc, flatten, map}
 use lib.Dec.{eqb, leb}
 use lib.ListN.{length, take, drop, drop-of-length-le, take-append-drop, List·getD-eq-default}
 use lib.Seq.{drop-cons, drop-drop}
 use borrow.Author.Tests.{leb-true}
-use Rattle.tokens.specs.Kind.{CloseBrace, Colon, Label}
+use Rattle.tokens.specs.Kind.{CloseBrace, Colon, Label, Literal}
 use Rattle.tokens.specs.Token.{Token, eofToken, tokenAt}
-use Rattle.tokens.specs.Push.{isValuePush, pushSize}
+use Rattle.tokens.specs.Push.{isValuePush, pushSize, fits}
 use Rattle.tokens.proofs.Laws.{lt-or-le}
-use Rattle.grammar.specs.Reading.{NONE, Simple, Group, Reading}
-use Rattle.grammar.specs.Rules.{base}
-use Rattle.grammar.specs.Grammar.{Many, none, more, Item, literal, opcode, push, labelCall, invocation, constant, argumentCall, builtin, forget, LabelGroup, group, remember, Body, body}
+use Rattle.grammar.specs.Reading.{NONE, aLiteral, anOpcode, Simple, Group, Reading}
+use Rattle.grammar.specs.Rules.{Rules}
+use Rattle.grammar.specs.Grammar.{Many, none, more, Item, literal, opcode, push, labelCall, invocation, constant, argumentCall, builtin, forget, Items, LabelGroup, group, remember, Body, body}
 use Rattle.grammar.specs.Follows.{Follows}
-use Rattle.grammar.specs.PlainLength.{mainBytes, innerBytes, groupBytes, allMeasured, groupsMeasured, plainLength}
-use Rattle.statements.specs.Length.{plainKind, tokenBytes, awaitedBehind, lengthOn, lengthFrom}
+use Rattle.grammar.specs.PlainLength.{isA, valuePush, isOperand, measured, hasLength, ownBytes, stepBytes, Step, steps, bodySteps, totalBytes, every, plainLength}
+use Rattle.grammar.proofs.Operands.{is-a, steps-alone}
+use Rattle.statements.specs.Length.{plainKind, opcodeByte, mayFollow, tokenBytes, lengthOn, lengthFrom}
 
 -- ---- a token of the walk
 
@@ -30,135 +31,271 @@ unfolding plainKind
 plain-some zero e = absurd (true≢false (sym e))
 plain-some (suc k) e = omega arith
 
-module _ (takes : Bool) (n b p : ℕ) (all : List Token) where
+-- a value push takes at most 32 bytes
+pub push-size-most : (byte : ℕ) → isValuePush byte ≡ true → pushSize byte ≤ 32
+unfolding isValuePush pushSize
+push-size-most byte h = omega (arith, leb-true byte 0x7f (and-eq-true-iff (leb 0x60 byte) (leb byte 0x7f) .0 h .1))
+
+-- a test without consequence
+cond-same : (u : Bool) (x : ℕ) → cond u x x ≡ x
+cond-same true x = refl
+cond-same false x = refl
+
+-- 0 is no push's byte
+no-push : isValuePush 0 ≡ false
+unfolding isValuePush
+no-push = refl
+
+module _ (byte b p : ℕ) (all : List Token) where
   -- at place p, inside the list or past its end
-  length-at : lengthOn takes n b (drop p all)
-      ≡ cond (eqb (tokenAt all p .kind) CloseBrace) b (cond (plainKind (tokenAt all p .kind)) (lengthOn (takes && not (eqb (tokenAt all p .kind) Label)) (awaitedBehind takes (tokenAt all p)) (b + tokenBytes n (tokenAt all p)) (drop (p + 1) all)) NONE)
+  length-at : lengthOn byte b (drop p all)
+      ≡ cond (mayFollow byte (tokenAt all p)) (cond (eqb (tokenAt all p .kind) CloseBrace) b (cond (plainKind (tokenAt all p .kind)) (lengthOn (opcodeByte (tokenAt all p)) (b + tokenBytes byte (tokenAt all p)) (drop (p + 1) all)) NONE)) NONE
   unfolding lengthOn plainKind
   length-at =
       ⊎-elim (λ (h : p < length all). rw (drop-cons all p eofToken h, add-one))
-      (λ (h : length all ≤ p). rw (drop-of-length-le all h, List·getD-eq-default all eofToken h))
+      (λ (h : length all ≤ p). rw (drop-of-length-le all h, List·getD-eq-default all eofToken h) (sym (cond-same (mayFollow byte eofToken) NONE)))
       (lt-or-le p (length all))
 
-  -- the brace, a kind that is not plain, a plain one
-  pub length-ends : tokenAt all p .kind ≡ CloseBrace → lengthOn takes n b (drop p all) ≡ b
-  length-ends e = length-at ∙ rw e
+  -- what may not stand there, the brace, a kind that is not plain, a plain one
+  pub length-lacks : mayFollow byte (tokenAt all p) ≡ false → lengthOn byte b (drop p all) ≡ NONE
+  length-lacks m = length-at ∙ rw m
 
-  pub length-none : eqb (tokenAt all p .kind) CloseBrace ≡ false → plainKind (tokenAt all p .kind) ≡ false → lengthOn takes n b (drop p all) ≡ NONE
-  length-none e f = length-at ∙ rw (e, f)
+  pub length-ends : mayFollow byte (tokenAt all p) ≡ true → tokenAt all p .kind ≡ CloseBrace → lengthOn byte b (drop p all) ≡ b
+  length-ends m e = length-at ∙ rw (m, e)
 
-  pub length-goes : eqb (tokenAt all p .kind) CloseBrace ≡ false → plainKind (tokenAt all p .kind) ≡ true
-      → lengthOn takes n b (drop p all) ≡ lengthOn (takes && not (eqb (tokenAt all p .kind) Label)) (awaitedBehind takes (tokenAt all p)) (b + tokenBytes n (tokenAt all p)) (drop (p + 1) all)
-  length-goes e f = length-at ∙ rw (e, f)
+  pub length-none : mayFollow byte (tokenAt all p) ≡ true → eqb (tokenAt all p .kind) CloseBrace ≡ false → plainKind (tokenAt all p .kind) ≡ false → lengthOn byte b (drop p all) ≡ NONE
+  length-none m e f = length-at ∙ rw (m, e, f)
 
--- ---- bytes
+  pub length-goes : mayFollow byte (tokenAt all p) ≡ true → eqb (tokenAt all p .kind) CloseBrace ≡ false → plainKind (tokenAt all p .kind) ≡ true
+      → lengthOn byte b (drop p all) ≡ lengthOn (opcodeByte (tokenAt all p)) (b + tokenBytes byte (tokenAt all p)) (drop (p + 1) all)
+  length-goes m e f = length-at ∙ rw (m, e, f)
 
--- the bytes of a part's statements: in the macro part a push's literal counts with its push, in a label it does not
-abbrev partBytes : Bool → List Simple → ℕ
-partBytes true ss = mainBytes 0 ss
-partBytes false ss = innerBytes ss
+-- ---- the same walk over statements, with what is done behind them
 
--- a value push takes one byte at least, and at most 32
-pub push-some : (b : ℕ) → isValuePush b ≡ true → (0 < pushSize b) × (pushSize b ≤ 32)
-unfolding isValuePush pushSize
-push-some b h =
-    let both = and-eq-true-iff (leb 0x60 b) (leb b 0x7f) .0 h in
-    (omega (arith, leb-true 0x60 b (both .0)), omega (arith, leb-true b 0x7f (both .1)))
+-- the byte of an opcode statement, 0 of any other
+abbrev byteOf : Simple → ℕ
+byteOf s = cond (isA anOpcode s) (s .token .extra) 0
 
-measured-append : (u v : List Simple) → allMeasured (u ++ v) ≡ (allMeasured u && allMeasured v)
-unfolding allMeasured
-measured-append [] v = refl
-measured-append (x ∷ u) v = rw (measured-append u v, and-assoc)
+-- may the statement stand behind an opcode of this byte
+abbrev follows : ℕ → Simple → Bool
+follows byte s = not (isValuePush byte) || (isA aLiteral s && fits byte (s .token .text))
 
-inner-append : (u v : List Simple) → innerBytes (u ++ v) ≡ innerBytes u + innerBytes v
-unfolding innerBytes
-inner-append [] v = rw zero-add
-inner-append (x ∷ u) v = rw (inner-append u v, add-assoc)
+-- its bytes there
+abbrev bytesBehind : ℕ → Simple → ℕ
+bytesBehind byte s = cond (isA aLiteral s) (cond (isValuePush byte) (pushSize byte) (ownBytes (s .sort) (s .token))) (ownBytes (s .sort) (s .token))
 
--- the last statement of a unit awaits nothing of the next one
-unit-bytes : (takes : Bool) (p : ℕ) (xs : List Token) (u v : List Simple) → Item takes p xs u → partBytes takes (u ++ v) ≡ partBytes takes u + partBytes takes v
-unfolding mainBytes innerBytes
-unit-bytes false p xs u v h = inner-append u v
-unit-bytes true p xs u v (literal t e) = rw add-zero
-unit-bytes true p xs u v (opcode t e w) = rw w
-unit-bytes true p xs u v (push t w e h k f) = omega arith
-unit-bytes true p xs u v (labelCall t e) = rw add-zero
-unit-bytes true p xs u v (invocation t o e f c) = rw add-zero
-unit-bytes true p xs u v (constant l t r e f g) = rw add-zero
-unit-bytes true p xs u v (argumentCall l t r e f g) = rw add-zero
-unit-bytes true p xs u v (builtin t o e f c) = rw add-zero
+-- `on` is handed the last statement's byte and the bytes so far
+walk : ℕ → ℕ → List Simple → (ℕ → ℕ → ℕ) → ℕ
+walk byte b [] on = on byte b
+walk byte b (s ∷ ss) on = cond (measured (s .sort) && follows byte s) (walk (byteOf s) (b + bytesBehind byte s) ss on) NONE
 
--- ---- an item, items, label groups
+walk-append : (byte b : ℕ) (u v : List Simple) (on : ℕ → ℕ → ℕ) → walk byte b (u ++ v) on ≡ walk byte b u (λ byte b. walk byte b v on)
+unfolding walk
+walk-append byte b [] v on = refl
+walk-append byte b (s ∷ u) v on = ap (λ x. cond (measured (s .sort) && follows byte s) x NONE) (walk-append (byteOf s) (b + bytesBehind byte s) u v on)
 
--- an item that has a length adds its bytes, and nothing is awaited behind it; one that has none shows it by its first or its second token
-item-length : (takes : Bool) (p : ℕ) (xs : List Token) (ss : List Simple) (b : ℕ) (ys : List Token) → Item takes p xs ss
-    → lengthOn takes 0 b (xs ++ ys) ≡ cond (allMeasured ss) (lengthOn takes 0 (b + partBytes takes ss) ys) NONE
-unfolding lengthOn plainKind tokenBytes awaitedBehind allMeasured mainBytes innerBytes
-item-length true p xs ss b ys (literal t e) = rw (e, add-zero)
-item-length false p xs ss b ys (literal t e) = rw (e, add-zero)
-item-length true p xs ss b ys (opcode t e w) = rw (e, w)
-item-length false p xs ss b ys (opcode t e w) = rw e
-item-length true p xs ss b ys (push t v e w k f) = rw (e, k) (ap (λ (z : ℕ). lengthOn true 0 z ys) (omega arith))
-item-length false p xs ss b ys (push t v e w k f) = absurd (true≢false (sym w))
-item-length true p xs ss b ys (labelCall t e) = rw e
-item-length false p xs ss b ys (labelCall t e) = rw e
-item-length takes p xs ss b ys (invocation t o e f c) = rw (e, f)
-item-length takes p xs ss b ys (constant l t r e f g) = rw e
-item-length takes p xs ss b ys (argumentCall l t r e f g) = rw e
-item-length takes p xs ss b ys (builtin t o e f c) = rw e
+-- going on by what is equal
+walk-same : (byte b : ℕ) (ss : List Simple) (on off : ℕ → ℕ → ℕ) → ((byte b : ℕ) → on byte b ≡ off byte b) → walk byte b ss on ≡ walk byte b ss off
+walk-same byte b ss on off h = λ i. walk byte b ss (λ byte b. h byte b i)
+
+-- ---- tokens to statements
+
+-- an item
+item-walk : (takes : Bool) (p : ℕ) (xs : List Token) (ss : List Simple) (byte b : ℕ) (ys : List Token) → Item takes p xs ss
+    → lengthOn byte b (xs ++ ys) ≡ walk byte b ss (λ byte b. lengthOn byte b ys)
+unfolding lengthOn plainKind mayFollow tokenBytes opcodeByte walk
+item-walk takes p xs ss byte b ys (literal t e) = rw e
+item-walk takes p xs ss byte b ys (opcode t e w) = rw e
+item-walk takes p xs ss byte b ys (push t v e w k f) = rw (e, k)
+item-walk takes p xs ss byte b ys (labelCall t e) = rw e
+item-walk takes p xs ss byte b ys (invocation t o e f c) = rw (e, f, no-push) (cond-same (not (isValuePush byte) || false) NONE)
+item-walk takes p xs ss byte b ys (constant l t r e f g) = rw e (cond-same (not (isValuePush byte) || false) NONE)
+item-walk takes p xs ss byte b ys (argumentCall l t r e f g) = rw e (cond-same (not (isValuePush byte) || false) NONE)
+item-walk takes p xs ss byte b ys (builtin t o e f c) = rw e (cond-same (not (isValuePush byte) || false) NONE)
+
+-- items one behind the other
+items-walk : (takes : Bool) (s : Unit {0}) (p : ℕ) (xs : List Token) (is : List (List Simple)) (byte b : ℕ) (ys : List Token) → Many forget (λ s. Item takes) s p xs is
+    → lengthOn byte b (xs ++ ys) ≡ walk byte b (flatten is) (λ byte b. lengthOn byte b ys)
+unfolding flatten walk
+items-walk takes s p xs is byte b ys none = refl
+items-walk takes s p xs is byte b ys (more {xs = us} {ys = vs} {a = a} {rs = rs} u m) =
+    ap (lengthOn byte b) (append-assoc us vs ys)
+    ∙ item-walk takes p us a byte b (vs ++ ys) u
+    ∙ walk-same byte b a (λ byte b. lengthOn byte b (vs ++ ys)) (λ byte b. walk byte b (flatten rs) (λ byte b. lengthOn byte b ys)) (λ byte b. items-walk takes tt (p + length us) vs rs byte b ys m)
+    ∙ sym (walk-append byte b a (flatten rs) (λ byte b. lengthOn byte b ys))
+
+-- ---- statements to steps
+
+-- the byte left behind a statement is a value push's exactly if the statement is one
+byte-push : (s : Simple) → isValuePush (byteOf s) ≡ valuePush s
+byte-push s = by (isA anOpcode s)
+  where
+    by : (u : Bool) → isValuePush (cond u (s .token .extra) 0) ≡ (u && isValuePush (s .token .extra))
+    by true = refl
+    by false = no-push
+
+-- a statement that stands behind no push
+walk-first : (b : ℕ) (s : Simple) (ss : List Simple) (on : ℕ → ℕ → ℕ) → walk 0 b (s ∷ ss) on ≡ cond (measured (s .sort)) (walk (byteOf s) (b + ownBytes (s .sort) (s .token)) ss on) NONE
+unfolding walk
+walk-first b s ss on = rw (no-push, and-true (measured (s .sort)), cond-same (isA aLiteral s) (ownBytes (s .sort) (s .token)))
 
 -- two tests one behind the other
 both-cond : (u v : Bool) (x : ℕ) → cond u (cond v x NONE) NONE ≡ cond (u && v) x NONE
 both-cond true v x = refl
 both-cond false v x = refl
 
--- items one behind the other
-items-length : (takes : Bool) (s : Unit {0}) (p : ℕ) (xs : List Token) (is : List (List Simple)) (b : ℕ) (ys : List Token) → Many forget (λ s. Item takes) s p xs is
-    → lengthOn takes 0 b (xs ++ ys) ≡ cond (allMeasured (flatten is)) (lengthOn takes 0 (b + partBytes takes (flatten is)) ys) NONE
-unfolding flatten allMeasured mainBytes innerBytes
-items-length true s p xs is b ys none = rw add-zero
-items-length false s p xs is b ys none = rw add-zero
-items-length takes s p xs is b ys (more {xs = us} {ys = vs} {a = a} {rs = rs} u m) =
-    ap (lengthOn takes 0 b) (append-assoc us vs ys)
-    ∙ item-length takes p us a b (vs ++ ys) u
-    ∙ ap (λ x. cond (allMeasured a) x NONE) (items-length takes tt (p + length us) vs rs (b + partBytes takes a) ys m)
-    ∙ both-cond (allMeasured a) (allMeasured (flatten rs)) (lengthOn takes 0 (b + partBytes takes a + partBytes takes (flatten rs)) ys)
-    ∙ rw (measured-append a (flatten rs), unit-bytes takes p us a (flatten rs) u, add-assoc b (partBytes takes a) (partBytes takes (flatten rs)))
+-- behind a push without an operand the walk ends
+walk-lacks : (b : ℕ) (s l : Simple) (ss : List Simple) (on : ℕ → ℕ → ℕ) → valuePush s ≡ true → isOperand s l ≡ false → walk (byteOf s) b (l ∷ ss) on ≡ NONE
+unfolding walk
+walk-lacks b s l ss on v o =
+    let push = and-eq-true-iff (isA anOpcode s) (isValuePush (s .token .extra)) .0 v in
+    let no = subst (λ x. (x && isA aLiteral l && fits (s .token .extra) (l .token .text)) ≡ false) v o in
+    rw (push .0, push .1, no, and-false (measured (l .sort)))
 
--- a Label counts 1, and behind it no push takes its literal; its Colon counts nothing
-label-length : (takes : Bool) (b : ℕ) (t d : Token) (ts : List Token) → t .kind ≡ Label → d .kind ≡ Colon → lengthOn takes 0 b (t ∷ d ∷ ts) ≡ lengthOn false 0 (suc b) ts
-unfolding lengthOn plainKind tokenBytes awaitedBehind
-label-length true b t d ts e f = rw (e, f) (ap (λ (z : ℕ). lengthOn false 0 z ts) (omega arith))
-label-length false b t d ts e f = rw (e, f) (ap (λ (z : ℕ). lengthOn false 0 z ts) (omega arith))
+-- where no operand can stand: x, but behind a push NONE
+abbrev unlessPush : ℕ → ℕ → ℕ
+unlessPush byte x = cond (not (isValuePush byte)) x NONE
+
+module _ (K : ℕ → ℕ) where
+  -- the end of a part, with what is done behind it
+  abbrev ends : ℕ → ℕ → ℕ
+  ends byte b = unlessPush byte (K b)
+
+  -- what a part of these statements comes to
+  abbrev Stepped : List Simple → Type 0
+  Stepped ss = (b : ℕ) → walk 0 b ss ends ≡ cond (every hasLength (steps ss)) (K (b + totalBytes (steps ss))) NONE
+
+  -- of an opcode's byte only a push's is looked at
+  walk-plain : (byte b : ℕ) (ss : List Simple) → isValuePush byte ≡ false → walk byte b ss ends ≡ walk 0 b ss ends
+  unfolding walk
+  walk-plain byte b [] h = rw (h, no-push)
+  walk-plain byte b (s ∷ ss) h = rw (h, no-push)
+
+  -- no push; a push with its operand; a push without
+  step-plain : (s l : Simple) (ss : List Simple) → valuePush s ≡ false → isOperand s l ≡ false → Stepped (l ∷ ss) → Stepped (s ∷ l ∷ ss)
+  unfolding every totalBytes
+  step-plain s l ss v o h b =
+      let own = ownBytes (s .sort) (s .token) in
+      walk-first b s (l ∷ ss) ends
+      ∙ ap (λ x. cond (measured (s .sort)) x NONE) (walk-plain (byteOf s) (b + own) (l ∷ ss) (byte-push s ∙ v) ∙ h (b + own))
+      ∙ both-cond (measured (s .sort)) (every hasLength (steps (l ∷ ss))) (K (b + own + totalBytes (steps (l ∷ ss))))
+      ∙ rw (steps-alone s l ss o, v, and-true (measured (s .sort)), add-zero own, add-assoc b own (totalBytes (steps (l ∷ ss))))
+
+  step-push : (s l : Simple) (ss : List Simple) → isOperand s l ≡ true → Stepped ss → Stepped (s ∷ l ∷ ss)
+  unfolding walk steps every totalBytes
+  step-push s l ss o h b =
+      let both = and-eq-true-iff (valuePush s && isA aLiteral l) (fits (s .token .extra) (l .token .text)) .0 o in
+      let sorts = and-eq-true-iff (valuePush s) (isA aLiteral l) .0 (both .0) in
+      let push = and-eq-true-iff (isA anOpcode s) (isValuePush (s .token .extra)) .0 (sorts .0) in
+      rw (o, is-a anOpcode s (push .0), is-a aLiteral l (sorts .1), push .1, both .1, no-push)
+      (h (b + 1 + pushSize (s .token .extra)) ∙ ap (λ (n : ℕ). cond (every hasLength (steps ss)) (K n) NONE) (omega arith))
+
+  step-lacks : (s l : Simple) (ss : List Simple) → valuePush s ≡ true → isOperand s l ≡ false → Stepped (s ∷ l ∷ ss)
+  unfolding every
+  step-lacks s l ss v o b =
+      walk-first b s (l ∷ ss) ends
+      ∙ ap (λ x. cond (measured (s .sort)) x NONE) (walk-lacks (b + ownBytes (s .sort) (s .token)) s l ss ends v o)
+      ∙ cond-same (measured (s .sort)) NONE
+      ∙ rw (steps-alone s l ss o, v, and-false (measured (s .sort)))
+
+  part-steps : (ss : List Simple) → Stepped ss
+  unfolding walk steps every totalBytes
+  part-steps [] b = rw (no-push, add-zero)
+  part-steps (s ∷ []) b =
+      let own = ownBytes (s .sort) (s .token) in
+      walk-first b s [] ends
+      ∙ ap (λ x. cond (measured (s .sort)) x NONE) (rw (byte-push s))
+      ∙ both-cond (measured (s .sort)) (not (valuePush s)) (K (b + own))
+      ∙ rw (and-true (measured (s .sort) && not (valuePush s)), add-zero own, add-zero own)
+  part-steps (s ∷ l ∷ ss) b = by (valuePush s) refl (isOperand s l) refl (part-steps ss) (part-steps (l ∷ ss))
+    where
+      by : (v : Bool) → valuePush s ≡ v → (o : Bool) → isOperand s l ≡ o → Stepped ss → Stepped (l ∷ ss) → walk 0 b (s ∷ l ∷ ss) ends ≡ cond (every hasLength (steps (s ∷ l ∷ ss))) (K (b + totalBytes (steps (s ∷ l ∷ ss)))) NONE
+      by v e true f h k = step-push s l ss f h b
+      by true e false f h k = step-lacks s l ss e f b
+      by false e false f h k = step-plain s l ss e f k b
+
+-- ---- parts, and the body
+
+-- a token that is no literal: behind a push it ends the length, behind any other token it is as behind none
+not-literal : (byte b : ℕ) (t : Token) (ts : List Token) → eqb (t .kind) Literal ≡ false → lengthOn byte b (t ∷ ts) ≡ unlessPush byte (lengthOn 0 b (t ∷ ts))
+unfolding lengthOn mayFollow tokenBytes
+not-literal byte b t ts e = by (isValuePush byte) refl
+  where
+    by : (v : Bool) → isValuePush byte ≡ v → lengthOn byte b (t ∷ ts) ≡ cond (not v) (lengthOn 0 b (t ∷ ts)) NONE
+    by true h = rw (h, e)
+    by false h = rw (h, no-push)
+
+-- items up to a token that is no literal
+part-length : (takes : Bool) (p : ℕ) (xs : List Token) (is : List (List Simple)) (b : ℕ) (ys : List Token)
+    → Items takes p xs is
+    → ((byte c : ℕ) → lengthOn byte c ys ≡ unlessPush byte (lengthOn 0 c ys))
+    → lengthOn 0 b (xs ++ ys) ≡ cond (every hasLength (steps (flatten is))) (lengthOn 0 (b + totalBytes (steps (flatten is))) ys) NONE
+part-length takes p xs is b ys m h =
+    items-walk takes tt p xs is 0 b ys m
+    ∙ walk-same 0 b (flatten is) (λ byte c. lengthOn byte c ys) (λ byte c. unlessPush byte (lengthOn 0 c ys)) h
+    ∙ part-steps (λ c. lengthOn 0 c ys) (flatten is) b
+
+-- the steps of labels
+abbrev groupSteps : List Group → List Step
+groupSteps gs = flatten (map (λ (g : Group). steps (g .inner)) gs)
+
+measured-append : (u v : List Step) → every hasLength (u ++ v) ≡ (every hasLength u && every hasLength v)
+unfolding every
+measured-append [] v = refl
+measured-append (x ∷ u) v = rw (measured-append u v) (sym (and-assoc (hasLength x) (every hasLength u) (every hasLength v)))
+
+total-append : (u v : List Step) → totalBytes (u ++ v) ≡ totalBytes u + totalBytes v
+unfolding totalBytes
+total-append [] v = rw zero-add
+total-append (x ∷ u) v = rw (total-append u v) (sym (add-assoc (stepBytes x) (totalBytes u) (totalBytes v)))
+
+-- one part behind another: b bytes before them, n behind
+joined : (u v : List Step) (b n : ℕ)
+    → cond (every hasLength u) (cond (every hasLength v) (b + totalBytes u + (n + totalBytes v)) NONE) NONE ≡ cond (every hasLength (u ++ v)) (b + (n + totalBytes (u ++ v))) NONE
+joined u v b n =
+    both-cond (every hasLength u) (every hasLength v) (b + totalBytes u + (n + totalBytes v))
+    ∙ rw (measured-append u v, total-append u v) (ap (λ (x : ℕ). cond (every hasLength u && every hasLength v) x NONE) (omega arith))
+
+-- label groups and the brace that ends the body begin with no literal
+group-first : (m : Rules) (seen : List (List ℕ)) (p : ℕ) (xs : List Token) (gs : List Group) (c : Token) (zs : List Token) → Many remember (LabelGroup m) seen p xs gs
+    → c .kind ≡ CloseBrace
+    → (byte b : ℕ) → lengthOn byte b (xs ++ (c ∷ zs)) ≡ unlessPush byte (lengthOn 0 b (xs ++ (c ∷ zs)))
+group-first m seen p xs gs c zs none e byte b = not-literal byte b c zs (rw e)
+group-first m seen p xs gs c zs (more {ys = vs} (group {xs = us} t d f w g k) r) e byte b = not-literal byte b t (d ∷ ((us ++ vs) ++ (c ∷ zs))) (rw f)
+
+-- a Label counts 1, its Colon nothing
+label-length : (b : ℕ) (t d : Token) (ts : List Token) → t .kind ≡ Label → d .kind ≡ Colon → lengthOn 0 b (t ∷ d ∷ ts) ≡ lengthOn 0 (suc b) ts
+unfolding lengthOn plainKind mayFollow tokenBytes opcodeByte
+label-length b t d ts e f = rw (e, f, no-push) (ap (λ (z : ℕ). lengthOn 0 z ts) (omega arith))
 
 -- label groups, up to the brace that ends the body
-groups-length : (takes : Bool) (seen : List (List ℕ)) (p : ℕ) (xs : List Token) (gs : List Group) (b : ℕ) (c : Token) (zs : List Token) → Many remember (LabelGroup base) seen p xs gs
+groups-length : (m : Rules) (seen : List (List ℕ)) (p : ℕ) (xs : List Token) (gs : List Group) (b : ℕ) (c : Token) (zs : List Token) → Many remember (LabelGroup m) seen p xs gs
     → c .kind ≡ CloseBrace
-    → lengthOn takes 0 b (xs ++ (c ∷ zs)) ≡ cond (groupsMeasured gs) (b + groupBytes gs) NONE
-unfolding lengthOn groupsMeasured groupBytes
-groups-length takes seen p xs gs b c zs none e = rw (e, add-zero)
-groups-length takes seen p xs gs b c zs (more {ys = vs} {rs = rs} (group {xs = us} {is = is} t d f w g k) m) e =
-    label-length takes b t d ((us ++ vs) ++ (c ∷ zs)) f g
-    ∙ ap (lengthOn false 0 (suc b)) (append-assoc us vs (c ∷ zs))
-    ∙ items-length false tt (suc (suc p)) us is (suc b) (vs ++ (c ∷ zs)) k
-    ∙ ap (λ x. cond (allMeasured (flatten is)) x NONE) (groups-length false (t .text ∷ seen) (p + suc (suc (length us))) vs rs (suc b + innerBytes (flatten is)) c zs m e)
-    ∙ both-cond (allMeasured (flatten is)) (groupsMeasured rs) (suc b + innerBytes (flatten is) + groupBytes rs)
-    ∙ ap (λ (x : ℕ). cond (allMeasured (flatten is) && groupsMeasured rs) x NONE) (omega arith)
-
--- ---- the body
+    → lengthOn 0 b (xs ++ (c ∷ zs)) ≡ cond (every hasLength (groupSteps gs)) (b + (length gs + totalBytes (groupSteps gs))) NONE
+unfolding flatten lengthOn mayFollow every totalBytes
+groups-length m seen p xs gs b c zs none e = rw (e, no-push, add-zero b)
+groups-length m seen p xs gs b c zs (more {ys = vs} {rs = rs} (group {xs = us} {is = is} t d f w g k) r) e =
+    let own = steps (flatten is) in
+    label-length b t d ((us ++ vs) ++ (c ∷ zs)) f g
+    ∙ ap (lengthOn 0 (suc b)) (append-assoc us vs (c ∷ zs))
+    ∙ part-length (m .pushInLabels) (suc (suc p)) us is (suc b) (vs ++ (c ∷ zs)) k (group-first m (t .text ∷ seen) (p + suc (suc (length us))) vs rs c zs r e)
+    ∙ ap (λ x. cond (every hasLength own) x NONE) (groups-length m (t .text ∷ seen) (p + suc (suc (length us))) vs rs (suc b + totalBytes own) c zs r e)
+    ∙ joined own (groupSteps rs) (suc b) (length rs)
+    ∙ ap (λ (x : ℕ). cond (every hasLength (own ++ groupSteps rs)) x NONE) (omega arith)
 
 -- a body's stretch, whatever stands behind it
-body-length : (p : ℕ) (xs : List Token) (r : Reading) (rest : List Token) → Body base p xs r → lengthOn true 0 0 (drop 1 (xs ++ rest)) ≡ plainLength r
-unfolding plainLength
-body-length p xs r rest (body {xs = us} {ys = vs} {is = is} {gs = gs} o c e k g f) =
+body-length : (m : Rules) (p : ℕ) (xs : List Token) (r : Reading) (rest : List Token) → Body m p xs r → lengthOn 0 0 (drop 1 (xs ++ rest)) ≡ plainLength r
+unfolding plainLength bodySteps
+body-length m p xs r rest (body {xs = us} {ys = vs} {is = is} {gs = gs} o c e k g f) =
+    let own = steps (flatten is) in
     rw (append-assoc us (vs ++ (c ∷ [])) rest, append-assoc vs (c ∷ []) rest)
-    (items-length true tt (suc p) us is 0 (vs ++ (c ∷ rest)) k
-    ∙ ap (λ x. cond (allMeasured (flatten is)) x NONE) (groups-length true [] (suc p + length us) vs gs (0 + mainBytes 0 (flatten is)) c rest g f)
-    ∙ both-cond (allMeasured (flatten is)) (groupsMeasured gs) (0 + mainBytes 0 (flatten is) + groupBytes gs)
-    ∙ ap (λ (x : ℕ). cond (allMeasured (flatten is) && groupsMeasured gs) x NONE) (omega arith))
+    (part-length true (suc p) us is 0 (vs ++ (c ∷ rest)) k (group-first m [] (suc p + length us) vs gs c rest g f)
+    ∙ ap (λ x. cond (every hasLength own) x NONE) (groups-length m [] (suc p + length us) vs gs (0 + totalBytes own) c rest g f)
+    ∙ joined own (groupSteps gs) 0 (length gs)
+    ∙ rw (zero-add (length gs + totalBytes (own ++ groupSteps gs))))
 
 -- The theorem: what `lengthFrom` adds up from the brace at p on is the plain length of the reading there
-pub length-is : (all : List Token) (p n : ℕ) (r : Reading) → Follows base all p n r → lengthFrom all p ≡ plainLength r
-length-is all p n r h =
-    ap (lengthOn true 0 0) (sym (drop-drop 1 p all ∙ ap (λ k. drop k all) (add-one p)) ∙ ap (drop 1) (sym (take-append-drop n (drop p all))))
-    ∙ body-length p (take n (drop p all)) r (drop n (drop p all)) (h .1)
+pub length-is : (m : Rules) (all : List Token) (p n : ℕ) (r : Reading) → Follows m all p n r → lengthFrom all p ≡ plainLength r
+length-is m all p n r h =
+    ap (lengthOn 0 0) (sym (drop-drop 1 p all ∙ ap (λ k. drop k all) (add-one p)) ∙ ap (drop 1) (sym (take-append-drop n (drop p all))))
+    ∙ body-length m p (take n (drop p all)) r (drop n (drop p all)) (h .1)

@@ -80,7 +80,7 @@ pub fn read_body(list: Vec<Token>, start: usize) -> Result<Found, No> {
     let body = parser.parse_body()?;
     let mut maker = Maker::new(&parser.tokens);
     maker.statements(&body, start + 1, parser.cursor - 1)?;
-    let length = plain_length(&body);
+    let length = plain_length(&body).unwrap_or(NONE);
     Ok(maker.found(parser.cursor, length))
 }
 
@@ -367,35 +367,38 @@ fn first_of(s: &Statement) -> usize {
     }
 }
 
-/// The plain length of a body, which the Rust doesn't know: document 01's added rule.
-fn plain_length(body: &[Statement]) -> u32 {
-    let mut total = 0u32;
-    let mut operand = None;
-    for s in body {
-        let taken = operand.take();
+/// The plain length of a body, which the Rust doesn't know: document 01's added rule, with request [3].
+fn plain_length(body: &[Statement]) -> Option<u32> {
+    let labels = body.iter().position(|s| matches!(s.ty, StatementType::Label(_)));
+    let (main, groups) = body.split_at(labels.unwrap_or(body.len()));
+    let mut total = part_length(main)?;
+    for s in groups {
+        let StatementType::Label(l) = &s.ty else { unreachable!("a statement behind a label that is none") };
+        total += 1 + part_length(&l.inner)?;
+    }
+    Some(total)
+}
+
+/// The bytes of a macro part or of a label's items.
+fn part_length(part: &[Statement]) -> Option<u32> {
+    let mut total = 0;
+    let mut rest = part.iter();
+    while let Some(s) = rest.next() {
         total += match &s.ty {
-            StatementType::Opcode(o) => {
-                operand = o.is_value_push().then(|| u32::from(o.0 - 0x5f));
-                1
-            }
-            StatementType::Literal(l) => taken.unwrap_or_else(|| 1 + significant(l)),
-            StatementType::LabelCall(_) => 3,
-            StatementType::Label(l) => {
-                let mut inner = 1;
-                for i in &l.inner {
-                    inner += match &i.ty {
-                        StatementType::Opcode(_) => 1,
-                        StatementType::Literal(l) => 1 + significant(l),
-                        StatementType::LabelCall(_) => 3,
-                        _ => return NONE,
-                    };
+            StatementType::Opcode(o) if o.is_value_push() => {
+                let n = u32::from(o.0 - 0x5f);
+                match &rest.next()?.ty {
+                    StatementType::Literal(l) if significant(l) <= n => 1 + n,
+                    _ => return None,
                 }
-                inner
             }
-            _ => return NONE,
+            StatementType::Opcode(_) => 1,
+            StatementType::Literal(l) => 1 + significant(l),
+            StatementType::LabelCall(_) => 3,
+            _ => return None,
         };
     }
-    total
+    Some(total)
 }
 
 fn significant(l: &[u8; 32]) -> u32 {

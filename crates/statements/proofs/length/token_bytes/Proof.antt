@@ -1,23 +1,30 @@
-use denote.Ref.{now}
 use mathlib.Core.Path.{sym, _∙_}
+use denote.Ref.{now}
 use native.Mathlib.Numerals.{add-one}
 use native.Mathlib.Omega.{arith}
-use borrow.Author.Tests.{ne-eqb}
 use Rattle.tokens.specs.Literal.{literalValue}
 use Rattle.tokens.proofs.TokenLaws.{view-text}
 use Rattle.tokens.proofs.LiteralLaws.{significant-between}
 use Rattle.statements.specs.Length.{tokenBytes}
 use Rattle.lists.proofs.At.{kind-here, test-yes, test-no}
+use Rattle.statements.proofs.LengthLaws.{push-size-most}
 use borrow.Author.Needs.{needs}
 use Rattle.statements.proofs.length.token_bytes.Statement.{statement}
 use Rattle.statements.proofs.length.token_bytes.Tie as tie
 
+is-value-push-requires : tie.Need-is-value-push-requires
+is-value-push-requires c κs = search needs
+
+push-size-requires : tie.Need-push-size-requires
+push-size-requires c κs = search needs
+
 returns : tie.Need-returns
 unfolding tokenBytes
 returns c =
-    let a = c .before .before .before .before .before .args in
-    let here = kind-here (now (a .text)) (now (a .tokens)) (now (a .kept)) (a .p) (c .before .before .before .before .before .pre .1 .0) in
-    (rw (test-yes here (c .before .match .keys1), ne-eqb _ _ (c .if1 .taken)), omega (arith, c .before .before .before .before .before .pre .1 .1))
+    let a = c .before .before .before .before .before .before .before .args in
+    let here = kind-here (now (a .text)) (now (a .tokens)) (now (a .kept)) (a .p) (c .before .before .before .before .before .before .before .pre .1) in
+    let push = sym (c .before .before .is-value-push .ensures) ∙ c .before .if1 .taken in
+    (rw (test-yes here (c .before .before .before .match .keys1), push) (c .push-size .ensures), omega (arith, c .push-size .ensures, push-size-most (a .byte) push))
 
 text-at-requires : tie.Need-text-at-requires
 text-at-requires c κs = search needs
@@ -31,30 +38,30 @@ add-result c = omega (arith, significant-between (literalValue (now (c .before .
 returns-2 : tie.Need-returns-2
 unfolding tokenBytes
 returns-2 c =
-    let a = c .before .before .before .before .before .before .before .args in
-    let here = kind-here (now (a .text)) (now (a .tokens)) (now (a .kept)) (a .p) (c .before .before .before .before .before .before .before .pre .1 .0) in
+    let a = c .before .before .before .before .before .before .before .before .args in
+    let here = kind-here (now (a .text)) (now (a .tokens)) (now (a .kept)) (a .p) (c .before .before .before .before .before .before .before .before .pre .1) in
     let text = view-text (now (a .text)) (now (a .tokens)) (now (a .kept)) (a .p) ∙ sym (c .before .text-at .ensures) in
-    (rw (test-yes here (c .before .before .before .match .keys1), c .before .before .if1 .left, text, c .significant-bytes .ensures, add-one), omega (arith, significant-between (literalValue (now (c .before .text-at .result))), c .significant-bytes .ensures))
+    (rw (test-yes here (c .before .before .before .before .match .keys1), sym (c .before .before .before .is-value-push .ensures) ∙ c .before .before .if1 .left, text, c .significant-bytes .ensures, add-one), omega (arith, significant-between (literalValue (now (c .before .text-at .result))), c .significant-bytes .ensures))
 
 returns-3 : tie.Need-returns-3
 unfolding tokenBytes
 returns-3 c =
     let a = c .before .before .before .before .args in
-    let here = kind-here (now (a .text)) (now (a .tokens)) (now (a .kept)) (a .p) (c .before .before .before .before .pre .1 .0) in
+    let here = kind-here (now (a .text)) (now (a .tokens)) (now (a .kept)) (a .p) (c .before .before .before .before .pre .1) in
     (rw (sym here ∙ c .match .keys2), omega arith)
 
 returns-4 : tie.Need-returns-4
 unfolding tokenBytes
 returns-4 c =
     let a = c .before .before .before .before .args in
-    let here = kind-here (now (a .text)) (now (a .tokens)) (now (a .kept)) (a .p) (c .before .before .before .before .pre .1 .0) in
+    let here = kind-here (now (a .text)) (now (a .tokens)) (now (a .kept)) (a .p) (c .before .before .before .before .pre .1) in
     (rw (sym here ∙ c .match .keys3), omega arith)
 
 returns-5 : tie.Need-returns-5
 unfolding tokenBytes
 returns-5 c =
     let a = c .before .before .before .before .args in
-    let here = kind-here (now (a .text)) (now (a .tokens)) (now (a .kept)) (a .p) (c .before .before .before .before .pre .1 .0) in
+    let here = kind-here (now (a .text)) (now (a .tokens)) (now (a .kept)) (a .p) (c .before .before .before .before .pre .1) in
     let no = c .match .rest in
     (rw (test-no here (no .0 .0 .1), test-no here (no .0 .1), test-no here (no .1)), omega arith)
 
@@ -62,6 +69,8 @@ pub token-bytes-spec : {M : Type 1} → statement M
 token-bytes-spec =
     tie.close
     (tie.spec
+    is-value-push-requires
+    push-size-requires
     returns
     text-at-requires
     significant-bytes-requires
