@@ -275,7 +275,7 @@ static void put_push(struct maker *m, bool in_label)
         put_literal(m, 32);
 }
 
-/* An item whose length is known without the rest of the program. */
+/* An item whose length is known without the rest of the program; a push in a label may lack its operand. */
 static void put_plain_item(struct maker *m, bool in_label)
 {
     switch (below(&m->chance, 4)) {

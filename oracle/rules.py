@@ -2,8 +2,8 @@
 """Document 01's rules, read straightforwardly.
 
 Cases on standard input, answers on standard output, a line each, in the format of docs/CASES.md.
-It follows document 01 and the readings in docs/DECISIONS.md, and shares nothing with the Rust: it
-is the other side of the comparison. Every answer is given in full, refusals 30 to 35 and all lent
+It follows document 01, the requests that are done (docs/requests) and the readings in docs/DECISIONS.md,
+and shares nothing with the Rust: it is the other side of the comparison. Every answer is given in full, refusals 30 to 35 and all lent
 contents too.
 
   rules.py < cases > answers

@@ -6,7 +6,7 @@ mod common;
 use common::{cases, Case};
 use simmerotter::{Body, Definition, File, Refused, Room, Statement};
 
-/// The sample has 3,210 cases; a shorter one would prove less than this test says.
+/// The sample has 3,212 cases; a shorter one would prove less than this test says.
 const FEWEST: usize = 3_000;
 
 #[test]

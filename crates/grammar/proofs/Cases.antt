@@ -1,7 +1,7 @@
 -- Theorem 6: the rows of document 01's table marked P, from the rules, under one statement.
 use Prim.Native.Nat.{ℕ}
 use mathlib.Core.Path.{_≡_, refl}
-use mathlib.Core.List.{List, map, flatten}
+use mathlib.Core.List.{List, map, flatten, sum}
 use Rattle.tokens.specs.Byte.{bytes, same, digit, valueAfter}
 use Rattle.tokens.specs.Literal.{literalValue, bytesFrom, significant}
 use Rattle.tokens.specs.Push.{isValuePush, pushSize, fits}
@@ -9,14 +9,14 @@ use Rattle.tokens.specs.Name.{decimal, multiples, sized, reservedNames, oneOf, 
 use Rattle.grammar.specs.Rules.{base}
 use Rattle.grammar.specs.Grammar.{allowed}
 use Rattle.grammar.specs.Records.{argumentsOf, groupArguments, allArguments, simpleRecords, groupRecords, statementRecords, argumentRecords, groupCount, statementCount, argumentCount}
-use Rattle.grammar.specs.PlainLength.{steps, bodySteps, totalBytes, every, plainLength}
+use Rattle.grammar.specs.PlainLength.{instructions, bodyInstructions, every, plainLength}
 use Rattle.grammar.specs.Result.{look, choose, seq, many}
 use Rattle.grammar.specs.Reader.{separated, entries, closedList, callArgument, nameStep, untypedStep, builtinArgument, operandStep, identStep, item, items, groupRest, labelGroup, groups, bodyFrom, bodyAt}
 use Rattle.grammar.specs.Cases.{Row, Outcome, rows, others, braced, tokensOf, outcome}
 
 -- what the reader answers for each row, at place 0 and with the base's rules, whatever the texts that no rule looks at; the line says what must compute for that
 unfoldable pub outcomes : (ℕ → List ℕ) → List Row → List Outcome
-unfolding bytes same digit valueAfter literalValue bytesFrom significant isValuePush pushSize fits decimal multiples sized reservedNames oneOf reserved flatten allowed argumentsOf groupArguments allArguments simpleRecords groupRecords statementRecords argumentRecords groupCount statementCount argumentCount steps bodySteps totalBytes every plainLength look choose seq many separated entries closedList callArgument nameStep untypedStep builtinArgument operandStep identStep item items groupRest labelGroup groups bodyFrom bodyAt tokensOf
+unfolding bytes same digit valueAfter literalValue bytesFrom significant isValuePush pushSize fits decimal multiples sized reservedNames oneOf reserved flatten allowed argumentsOf groupArguments allArguments simpleRecords groupRecords statementRecords argumentRecords groupCount statementCount argumentCount sum instructions bodyInstructions every plainLength look choose seq many separated entries closedList callArgument nameStep untypedStep builtinArgument operandStep identStep item items groupRest labelGroup groups bodyFrom bodyAt tokensOf
 outcomes texts list = map (λ row. outcome 0 (bodyAt base (tokensOf texts 0 (braced (row .input))) 0)) list
 
 -- Theorem 6. The rows marked P

@@ -14,9 +14,9 @@ use Rattle.grammar.specs.Records.{typeOf}
 use Rattle.grammar.specs.Rules.{Rules}
 use Rattle.grammar.specs.Grammar.{Many, none, more, Item, literal, opcode, push, labelCall, invocation, constant, argumentCall, builtin, forget, Body, body}
 use Rattle.grammar.specs.Follows.{Follows}
-use Rattle.grammar.specs.PlainLength.{isA, valuePush, isOperand, steps, complete, every}
+use Rattle.grammar.specs.PlainLength.{isA, valuePush, isOperand, instructions, complete, every}
 
--- `isA` is what it says: the type number tells the sort
+-- the type number tells the sort, so no other sort passes `isA`
 sortOf : ℕ → Sort
 sortOf n =
     cond (eqb n literalType) aLiteral
@@ -39,23 +39,23 @@ sort-back aBuiltin = refl
 pub is-a : (sort : Sort) (s : Simple) → isA sort s ≡ true → s .sort ≡ sort
 is-a sort s e = sym (sort-back (s .sort)) ∙ ap sortOf (eqb-true (typeOf (s .sort)) (typeOf sort) e) ∙ sort-back sort
 
--- what is no operand is a step of its own
-pub steps-alone : (s l : Simple) (ss : List Simple) → isOperand s l ≡ false → steps (s ∷ l ∷ ss) ≡ record { statement = s; withOperand = false } ∷ steps (l ∷ ss)
-unfolding steps
-steps-alone s l ss e = rw e
+-- what is no operand is counted by itself
+pub counted-alone : (s l : Simple) (ss : List Simple) → isOperand s l ≡ false → instructions (s ∷ l ∷ ss) ≡ record { statement = s; withOperand = false } ∷ instructions (l ∷ ss)
+unfolding instructions
+counted-alone s l ss e = rw e
 
--- a statement that is no value push, before complete steps
-plain-complete : (s : Simple) (ss : List Simple) → valuePush s ≡ false → every complete (steps ss) ≡ true → every complete (steps (s ∷ ss)) ≡ true
-unfolding steps every
+-- a statement that is no value push, before complete ones
+plain-complete : (s : Simple) (ss : List Simple) → valuePush s ≡ false → every complete (instructions ss) ≡ true → every complete (instructions (s ∷ ss)) ≡ true
+unfolding instructions every
 plain-complete s [] e h = ap (λ v. not v && true) e
 plain-complete s (l ∷ ss) e h =
-    ap (every complete) (steps-alone s l ss (rw e))
-    ∙ ap (λ v. not v && every complete (steps (l ∷ ss))) e
+    ap (every complete) (counted-alone s l ss (rw e))
+    ∙ ap (λ v. not v && every complete (instructions (l ∷ ss))) e
     ∙ h
 
 -- an item where a push takes its literal
-item-complete : (p : ℕ) (xs : List Token) (u v : List Simple) → Item true p xs u → every complete (steps v) ≡ true → every complete (steps (u ++ v)) ≡ true
-unfolding steps every
+item-complete : (p : ℕ) (xs : List Token) (u v : List Simple) → Item true p xs u → every complete (instructions v) ≡ true → every complete (instructions (u ++ v)) ≡ true
+unfolding instructions every
 item-complete p xs u v (literal t e) h = plain-complete _ v refl h
 item-complete p xs u v (opcode t e w) h = plain-complete _ v w h
 item-complete p xs u v (push t l e w k f) h = rw (w, f) h
@@ -66,14 +66,14 @@ item-complete p xs u v (argumentCall l t r e f g) h = plain-complete _ v refl h
 item-complete p xs u v (builtin t o e f c) h = plain-complete _ v refl h
 
 -- items one behind the other
-items-complete : (s : Unit {0}) (p : ℕ) (xs : List Token) (is : List (List Simple)) → Many forget (λ s. Item true) s p xs is → every complete (steps (flatten is)) ≡ true
-unfolding flatten steps every
+items-complete : (s : Unit {0}) (p : ℕ) (xs : List Token) (is : List (List Simple)) → Many forget (λ s. Item true) s p xs is → every complete (instructions (flatten is)) ≡ true
+unfolding flatten instructions every
 items-complete s p xs is none = refl
 items-complete s p xs is (more {xs = us} {ys = vs} {a = a} {rs = rs} u m) = item-complete p us a (flatten rs) u (items-complete tt (p + length us) vs rs m)
 
-body-complete : (m : Rules) (p : ℕ) (xs : List Token) (r : Reading) → Body m p xs r → every complete (steps (r .main)) ≡ true
+body-complete : (m : Rules) (p : ℕ) (xs : List Token) (r : Reading) → Body m p xs r → every complete (instructions (r .main)) ≡ true
 body-complete m p xs r (body {xs = us} {is = is} o c e k g f) = items-complete tt (suc p) us is k
 
 -- The theorem
-pub macro-part-complete : (m : Rules) (kept : List Token) (p n : ℕ) (r : Reading) → Follows m kept p n r → every complete (steps (r .main)) ≡ true
+pub macro-part-complete : (m : Rules) (kept : List Token) (p n : ℕ) (r : Reading) → Follows m kept p n r → every complete (instructions (r .main)) ≡ true
 macro-part-complete m kept p n r h = body-complete m p (take n (drop p kept)) r (h .1)

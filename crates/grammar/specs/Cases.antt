@@ -99,7 +99,7 @@ rows =
     ∷ refusedRow (word BuiltinFunction "f" ∷ mark OpenParen ∷ word Ident "a" ∷ word Ident "uint256" ∷ mark CloseParen ∷ []) 7 4
     ∷ []
 
--- further bodies: the table's rows without P, the slips that look right, and one for each rule that a row of the table leaves open
+-- further bodies: the table's rows without P, the slips that look right, one for each rule that a row of the table leaves open, and those of request [3]
 abbrev pub others : List Row
 others =
     -- { PUSH0 }
@@ -141,6 +141,14 @@ others =
     -- { go : PUSH1 0x01 0x01 }: only the one directly behind the push
     ∷ acceptedRow (word Label "go" ∷ mark Colon ∷ PUSH1 ∷ word Literal "0x01" ∷ word Literal "0x01" ∷ []) (7 ∷ 4 ∷ 0 ∷ 5 ∷ [])
     ((5 ∷ 1 ∷ 6 ∷ 1 ∷ 3 ∷ 0 ∷ 0 ∷ 1 ∷ []) ∷ (2 ∷ 3 ∷ 4 ∷ 2 ∷ 0 ∷ 0 ∷ 0 ∷ 3 ∷ []) ∷ (1 ∷ 4 ∷ 5 ∷ 3 ∷ 0 ∷ 0 ∷ 0 ∷ 4 ∷ []) ∷ (1 ∷ 5 ∷ 6 ∷ 4 ∷ 0 ∷ 0 ∷ 0 ∷ 5 ∷ []) ∷ [])
+    []
+    -- { go : PUSH1 0x0001 }: its significant bytes have to fit, not its digits
+    ∷ acceptedRow (word Label "go" ∷ mark Colon ∷ PUSH1 ∷ word Literal "0x0001" ∷ []) (6 ∷ 3 ∷ 0 ∷ 3 ∷ [])
+    ((5 ∷ 1 ∷ 5 ∷ 1 ∷ 2 ∷ 0 ∷ 0 ∷ 1 ∷ []) ∷ (2 ∷ 3 ∷ 4 ∷ 2 ∷ 0 ∷ 0 ∷ 0 ∷ 3 ∷ []) ∷ (1 ∷ 4 ∷ 5 ∷ 3 ∷ 0 ∷ 0 ∷ 0 ∷ 4 ∷ []) ∷ [])
+    []
+    -- { go : PUSH1 PUSH1 0x01 }: each push has its own
+    ∷ acceptedRow (word Label "go" ∷ mark Colon ∷ PUSH1 ∷ PUSH1 ∷ word Literal "0x01" ∷ []) (7 ∷ 4 ∷ 0 ∷ NONE ∷ [])
+    ((5 ∷ 1 ∷ 6 ∷ 1 ∷ 3 ∷ 0 ∷ 0 ∷ 1 ∷ []) ∷ (2 ∷ 3 ∷ 4 ∷ 2 ∷ 0 ∷ 0 ∷ 0 ∷ 3 ∷ []) ∷ (2 ∷ 4 ∷ 5 ∷ 3 ∷ 0 ∷ 0 ∷ 0 ∷ 4 ∷ []) ∷ (1 ∷ 5 ∷ 6 ∷ 4 ∷ 0 ∷ 0 ∷ 0 ∷ 5 ∷ []) ∷ [])
     []
     -- { go : PUSH1 x 0x01 }: not behind another statement
     ∷ acceptedRow (word Label "go" ∷ mark Colon ∷ PUSH1 ∷ word Ident "x" ∷ word Literal "0x01" ∷ []) (7 ∷ 4 ∷ 0 ∷ NONE ∷ [])

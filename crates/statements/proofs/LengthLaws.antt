@@ -6,11 +6,10 @@ use native.Mathlib.Omega.{arith}
 use mathlib.Core.Path.{_≡_, refl, sym, ap, subst, _∙_}
 use mathlib.Core.Logic.{⊎-elim}
 use mathlib.Core.Bool.{Bool, true, false, cond, not, _&&_, _||_, and-assoc, and-true, and-false, and-eq-true-iff, true≢false}
-use mathlib.Core.List.{List, [], _∷_, _++_, append-assoc, flatten, map}
-use lib.Dec.{eqb, leb}
+use mathlib.Core.List.{List, [], _∷_, _++_, append-assoc, map-append, flatten, map, sum, sum-append}
+use lib.Dec.{eqb}
 use lib.ListN.{length, take, drop, drop-of-length-le, take-append-drop, List·getD-eq-default}
 use lib.Seq.{drop-cons, drop-drop}
-use borrow.Author.Tests.{leb-true}
 use Rattle.tokens.specs.Kind.{CloseBrace, Colon, Label, Literal}
 use Rattle.tokens.specs.Token.{Token, eofToken, tokenAt}
 use Rattle.tokens.specs.Push.{isValuePush, pushSize, fits}
@@ -19,8 +18,8 @@ use Rattle.grammar.specs.Reading.{NONE, aLiteral, anOpcode, Simple, Group, Read
 use Rattle.grammar.specs.Rules.{Rules}
 use Rattle.grammar.specs.Grammar.{Many, none, more, Item, literal, opcode, push, labelCall, invocation, constant, argumentCall, builtin, forget, Items, LabelGroup, group, remember, Body, body}
 use Rattle.grammar.specs.Follows.{Follows}
-use Rattle.grammar.specs.PlainLength.{isA, valuePush, isOperand, measured, hasLength, ownBytes, stepBytes, Step, steps, bodySteps, totalBytes, every, plainLength}
-use Rattle.grammar.proofs.Operands.{is-a, steps-alone}
+use Rattle.grammar.specs.PlainLength.{isA, valuePush, isOperand, measured, hasLength, ownBytes, instructionBytes, Instruction, instructions, bodyInstructions, every, plainLength}
+use Rattle.grammar.proofs.Operands.{is-a, counted-alone}
 use Rattle.statements.specs.Length.{plainKind, opcodeByte, mayFollow, tokenBytes, lengthOn, lengthFrom}
 
 -- ---- a token of the walk
@@ -30,11 +29,6 @@ pub plain-some : (k : ℕ) → plainKind k ≡ true → 0 < k
 unfolding plainKind
 plain-some zero e = absurd (true≢false (sym e))
 plain-some (suc k) e = omega arith
-
--- a value push takes at most 32 bytes
-pub push-size-most : (byte : ℕ) → isValuePush byte ≡ true → pushSize byte ≤ 32
-unfolding isValuePush pushSize
-push-size-most byte h = omega (arith, leb-true byte 0x7f (and-eq-true-iff (leb 0x60 byte) (leb byte 0x7f) .0 h .1))
 
 -- a test without consequence
 cond-same : (u : Bool) (x : ℕ) → cond u x x ≡ x
@@ -124,7 +118,7 @@ items-walk takes s p xs is byte b ys (more {xs = us} {ys = vs} {a = a} {rs = rs}
     ∙ walk-same byte b a (λ byte b. lengthOn byte b (vs ++ ys)) (λ byte b. walk byte b (flatten rs) (λ byte b. lengthOn byte b ys)) (λ byte b. items-walk takes tt (p + length us) vs rs byte b ys m)
     ∙ sym (walk-append byte b a (flatten rs) (λ byte b. lengthOn byte b ys))
 
--- ---- statements to steps
+-- ---- statements to instructions
 
 -- the byte left behind a statement is a value push's exactly if the statement is one
 byte-push : (s : Simple) → isValuePush (byteOf s) ≡ valuePush s
@@ -156,14 +150,18 @@ walk-lacks b s l ss on v o =
 abbrev unlessPush : ℕ → ℕ → ℕ
 unlessPush byte x = cond (not (isValuePush byte)) x NONE
 
+-- the bytes of instructions together
+abbrev totalBytes : List Instruction → ℕ
+totalBytes xs = sum _+_ 0 (map instructionBytes xs)
+
 module _ (K : ℕ → ℕ) where
   -- the end of a part, with what is done behind it
   abbrev ends : ℕ → ℕ → ℕ
   ends byte b = unlessPush byte (K b)
 
   -- what a part of these statements comes to
-  abbrev Stepped : List Simple → Type 0
-  Stepped ss = (b : ℕ) → walk 0 b ss ends ≡ cond (every hasLength (steps ss)) (K (b + totalBytes (steps ss))) NONE
+  abbrev Counted : List Simple → Type 0
+  Counted ss = (b : ℕ) → walk 0 b ss ends ≡ cond (every hasLength (instructions ss)) (K (b + totalBytes (instructions ss))) NONE
 
   -- of an opcode's byte only a push's is looked at
   walk-plain : (byte b : ℕ) (ss : List Simple) → isValuePush byte ≡ false → walk byte b ss ends ≡ walk 0 b ss ends
@@ -172,47 +170,47 @@ module _ (K : ℕ → ℕ) where
   walk-plain byte b (s ∷ ss) h = rw (h, no-push)
 
   -- no push; a push with its operand; a push without
-  step-plain : (s l : Simple) (ss : List Simple) → valuePush s ≡ false → isOperand s l ≡ false → Stepped (l ∷ ss) → Stepped (s ∷ l ∷ ss)
-  unfolding every totalBytes
-  step-plain s l ss v o h b =
+  count-plain : (s l : Simple) (ss : List Simple) → valuePush s ≡ false → isOperand s l ≡ false → Counted (l ∷ ss) → Counted (s ∷ l ∷ ss)
+  unfolding every sum
+  count-plain s l ss v o h b =
       let own = ownBytes (s .sort) (s .token) in
       walk-first b s (l ∷ ss) ends
       ∙ ap (λ x. cond (measured (s .sort)) x NONE) (walk-plain (byteOf s) (b + own) (l ∷ ss) (byte-push s ∙ v) ∙ h (b + own))
-      ∙ both-cond (measured (s .sort)) (every hasLength (steps (l ∷ ss))) (K (b + own + totalBytes (steps (l ∷ ss))))
-      ∙ rw (steps-alone s l ss o, v, and-true (measured (s .sort)), add-zero own, add-assoc b own (totalBytes (steps (l ∷ ss))))
+      ∙ both-cond (measured (s .sort)) (every hasLength (instructions (l ∷ ss))) (K (b + own + totalBytes (instructions (l ∷ ss))))
+      ∙ rw (counted-alone s l ss o, v, and-true (measured (s .sort)), add-zero own, add-assoc b own (totalBytes (instructions (l ∷ ss))))
 
-  step-push : (s l : Simple) (ss : List Simple) → isOperand s l ≡ true → Stepped ss → Stepped (s ∷ l ∷ ss)
-  unfolding walk steps every totalBytes
-  step-push s l ss o h b =
+  count-push : (s l : Simple) (ss : List Simple) → isOperand s l ≡ true → Counted ss → Counted (s ∷ l ∷ ss)
+  unfolding walk instructions every sum
+  count-push s l ss o h b =
       let both = and-eq-true-iff (valuePush s && isA aLiteral l) (fits (s .token .extra) (l .token .text)) .0 o in
       let sorts = and-eq-true-iff (valuePush s) (isA aLiteral l) .0 (both .0) in
       let push = and-eq-true-iff (isA anOpcode s) (isValuePush (s .token .extra)) .0 (sorts .0) in
       rw (o, is-a anOpcode s (push .0), is-a aLiteral l (sorts .1), push .1, both .1, no-push)
-      (h (b + 1 + pushSize (s .token .extra)) ∙ ap (λ (n : ℕ). cond (every hasLength (steps ss)) (K n) NONE) (omega arith))
+      (h (b + 1 + pushSize (s .token .extra)) ∙ ap (λ (n : ℕ). cond (every hasLength (instructions ss)) (K n) NONE) (omega arith))
 
-  step-lacks : (s l : Simple) (ss : List Simple) → valuePush s ≡ true → isOperand s l ≡ false → Stepped (s ∷ l ∷ ss)
+  count-lacks : (s l : Simple) (ss : List Simple) → valuePush s ≡ true → isOperand s l ≡ false → Counted (s ∷ l ∷ ss)
   unfolding every
-  step-lacks s l ss v o b =
+  count-lacks s l ss v o b =
       walk-first b s (l ∷ ss) ends
       ∙ ap (λ x. cond (measured (s .sort)) x NONE) (walk-lacks (b + ownBytes (s .sort) (s .token)) s l ss ends v o)
       ∙ cond-same (measured (s .sort)) NONE
-      ∙ rw (steps-alone s l ss o, v, and-false (measured (s .sort)))
+      ∙ rw (counted-alone s l ss o, v, and-false (measured (s .sort)))
 
-  part-steps : (ss : List Simple) → Stepped ss
-  unfolding walk steps every totalBytes
-  part-steps [] b = rw (no-push, add-zero)
-  part-steps (s ∷ []) b =
+  part-counted : (ss : List Simple) → Counted ss
+  unfolding walk instructions every sum
+  part-counted [] b = rw (no-push, add-zero)
+  part-counted (s ∷ []) b =
       let own = ownBytes (s .sort) (s .token) in
       walk-first b s [] ends
       ∙ ap (λ x. cond (measured (s .sort)) x NONE) (rw (byte-push s))
       ∙ both-cond (measured (s .sort)) (not (valuePush s)) (K (b + own))
       ∙ rw (and-true (measured (s .sort) && not (valuePush s)), add-zero own, add-zero own)
-  part-steps (s ∷ l ∷ ss) b = by (valuePush s) refl (isOperand s l) refl (part-steps ss) (part-steps (l ∷ ss))
+  part-counted (s ∷ l ∷ ss) b = by (valuePush s) refl (isOperand s l) refl (part-counted ss) (part-counted (l ∷ ss))
     where
-      by : (v : Bool) → valuePush s ≡ v → (o : Bool) → isOperand s l ≡ o → Stepped ss → Stepped (l ∷ ss) → walk 0 b (s ∷ l ∷ ss) ends ≡ cond (every hasLength (steps (s ∷ l ∷ ss))) (K (b + totalBytes (steps (s ∷ l ∷ ss)))) NONE
-      by v e true f h k = step-push s l ss f h b
-      by true e false f h k = step-lacks s l ss e f b
-      by false e false f h k = step-plain s l ss e f k b
+      by : (v : Bool) → valuePush s ≡ v → (o : Bool) → isOperand s l ≡ o → Counted ss → Counted (l ∷ ss) → walk 0 b (s ∷ l ∷ ss) ends ≡ cond (every hasLength (instructions (s ∷ l ∷ ss))) (K (b + totalBytes (instructions (s ∷ l ∷ ss)))) NONE
+      by v e true f h k = count-push s l ss f h b
+      by true e false f h k = count-lacks s l ss e f b
+      by false e false f h k = count-plain s l ss e f k b
 
 -- ---- parts, and the body
 
@@ -229,28 +227,26 @@ not-literal byte b t ts e = by (isValuePush byte) refl
 part-length : (takes : Bool) (p : ℕ) (xs : List Token) (is : List (List Simple)) (b : ℕ) (ys : List Token)
     → Items takes p xs is
     → ((byte c : ℕ) → lengthOn byte c ys ≡ unlessPush byte (lengthOn 0 c ys))
-    → lengthOn 0 b (xs ++ ys) ≡ cond (every hasLength (steps (flatten is))) (lengthOn 0 (b + totalBytes (steps (flatten is))) ys) NONE
+    → lengthOn 0 b (xs ++ ys) ≡ cond (every hasLength (instructions (flatten is))) (lengthOn 0 (b + totalBytes (instructions (flatten is))) ys) NONE
 part-length takes p xs is b ys m h =
     items-walk takes tt p xs is 0 b ys m
     ∙ walk-same 0 b (flatten is) (λ byte c. lengthOn byte c ys) (λ byte c. unlessPush byte (lengthOn 0 c ys)) h
-    ∙ part-steps (λ c. lengthOn 0 c ys) (flatten is) b
+    ∙ part-counted (λ c. lengthOn 0 c ys) (flatten is) b
 
--- the steps of labels
-abbrev groupSteps : List Group → List Step
-groupSteps gs = flatten (map (λ (g : Group). steps (g .inner)) gs)
+-- the instructions of labels
+abbrev groupInstructions : List Group → List Instruction
+groupInstructions gs = flatten (map (λ (g : Group). instructions (g .inner)) gs)
 
-measured-append : (u v : List Step) → every hasLength (u ++ v) ≡ (every hasLength u && every hasLength v)
+measured-append : (u v : List Instruction) → every hasLength (u ++ v) ≡ (every hasLength u && every hasLength v)
 unfolding every
 measured-append [] v = refl
 measured-append (x ∷ u) v = rw (measured-append u v) (sym (and-assoc (hasLength x) (every hasLength u) (every hasLength v)))
 
-total-append : (u v : List Step) → totalBytes (u ++ v) ≡ totalBytes u + totalBytes v
-unfolding totalBytes
-total-append [] v = rw zero-add
-total-append (x ∷ u) v = rw (total-append u v) (sym (add-assoc (stepBytes x) (totalBytes u) (totalBytes v)))
+total-append : (u v : List Instruction) → totalBytes (u ++ v) ≡ totalBytes u + totalBytes v
+total-append u v = ap (sum _+_ 0) (map-append instructionBytes u v) ∙ sum-append _+_ 0 zero-add add-assoc (map instructionBytes u) (map instructionBytes v)
 
 -- one part behind another: b bytes before them, n behind
-joined : (u v : List Step) (b n : ℕ)
+joined : (u v : List Instruction) (b n : ℕ)
     → cond (every hasLength u) (cond (every hasLength v) (b + totalBytes u + (n + totalBytes v)) NONE) NONE ≡ cond (every hasLength (u ++ v)) (b + (n + totalBytes (u ++ v))) NONE
 joined u v b n =
     both-cond (every hasLength u) (every hasLength v) (b + totalBytes u + (n + totalBytes v))
@@ -271,28 +267,28 @@ label-length b t d ts e f = rw (e, f, no-push) (ap (λ (z : ℕ). lengthOn 0 z t
 -- label groups, up to the brace that ends the body
 groups-length : (m : Rules) (seen : List (List ℕ)) (p : ℕ) (xs : List Token) (gs : List Group) (b : ℕ) (c : Token) (zs : List Token) → Many remember (LabelGroup m) seen p xs gs
     → c .kind ≡ CloseBrace
-    → lengthOn 0 b (xs ++ (c ∷ zs)) ≡ cond (every hasLength (groupSteps gs)) (b + (length gs + totalBytes (groupSteps gs))) NONE
-unfolding flatten lengthOn mayFollow every totalBytes
+    → lengthOn 0 b (xs ++ (c ∷ zs)) ≡ cond (every hasLength (groupInstructions gs)) (b + (length gs + totalBytes (groupInstructions gs))) NONE
+unfolding flatten lengthOn mayFollow every sum
 groups-length m seen p xs gs b c zs none e = rw (e, no-push, add-zero b)
 groups-length m seen p xs gs b c zs (more {ys = vs} {rs = rs} (group {xs = us} {is = is} t d f w g k) r) e =
-    let own = steps (flatten is) in
+    let own = instructions (flatten is) in
     label-length b t d ((us ++ vs) ++ (c ∷ zs)) f g
     ∙ ap (lengthOn 0 (suc b)) (append-assoc us vs (c ∷ zs))
     ∙ part-length (m .pushInLabels) (suc (suc p)) us is (suc b) (vs ++ (c ∷ zs)) k (group-first m (t .text ∷ seen) (p + suc (suc (length us))) vs rs c zs r e)
     ∙ ap (λ x. cond (every hasLength own) x NONE) (groups-length m (t .text ∷ seen) (p + suc (suc (length us))) vs rs (suc b + totalBytes own) c zs r e)
-    ∙ joined own (groupSteps rs) (suc b) (length rs)
-    ∙ ap (λ (x : ℕ). cond (every hasLength (own ++ groupSteps rs)) x NONE) (omega arith)
+    ∙ joined own (groupInstructions rs) (suc b) (length rs)
+    ∙ ap (λ (x : ℕ). cond (every hasLength (own ++ groupInstructions rs)) x NONE) (omega arith)
 
 -- a body's stretch, whatever stands behind it
 body-length : (m : Rules) (p : ℕ) (xs : List Token) (r : Reading) (rest : List Token) → Body m p xs r → lengthOn 0 0 (drop 1 (xs ++ rest)) ≡ plainLength r
-unfolding plainLength bodySteps
+unfolding plainLength bodyInstructions
 body-length m p xs r rest (body {xs = us} {ys = vs} {is = is} {gs = gs} o c e k g f) =
-    let own = steps (flatten is) in
+    let own = instructions (flatten is) in
     rw (append-assoc us (vs ++ (c ∷ [])) rest, append-assoc vs (c ∷ []) rest)
     (part-length true (suc p) us is 0 (vs ++ (c ∷ rest)) k (group-first m [] (suc p + length us) vs gs c rest g f)
     ∙ ap (λ x. cond (every hasLength own) x NONE) (groups-length m [] (suc p + length us) vs gs (0 + totalBytes own) c rest g f)
-    ∙ joined own (groupSteps gs) 0 (length gs)
-    ∙ rw (zero-add (length gs + totalBytes (own ++ groupSteps gs))))
+    ∙ joined own (groupInstructions gs) 0 (length gs)
+    ∙ rw (zero-add (length gs + totalBytes (own ++ groupInstructions gs))))
 
 -- The theorem: what `lengthFrom` adds up from the brace at p on is the plain length of the reading there
 pub length-is : (m : Rules) (all : List Token) (p n : ℕ) (r : Reading) → Follows m all p n r → lengthFrom all p ≡ plainLength r

@@ -30,7 +30,7 @@ tokenBytes byte t =
     (cond (eqb (t .kind) Ident) 3
     (cond (eqb (t .kind) Colon) 0 1))
 
--- behind an opcode of this byte, with b bytes so far
+-- the length at the closing brace, from these tokens on: the first stands behind an opcode of this byte, and b bytes stand before it; NONE if they end before
 unfoldable pub lengthOn : ℕ → ℕ → List Token → ℕ
 lengthOn byte b [] = NONE
 lengthOn byte b (t ∷ ts) =

@@ -9,7 +9,7 @@ use mathlib.Core.List.{List, [], _∷_, _++_, map}
 use mathlib.Core.Logic.{⊎-elim, _↔_}
 use native.Mathlib.Nat.{add-zero, zero-add, sub-zero, zero-sub, sub-self, suc-sub-suc, add-mul}
 use native.Mathlib.Nat.{not-suc-le-zero, lt-of-not-le, le-of-suc-le-suc, le-of-eq, eq-zero-or-pos, le-trans, lt-of-lt-of-le, lt-of-le-of-lt, mul-le-mul-right}
-use native.Mathlib.Nat.{mul-zero, zero-mul, mul-suc, mul-comm, mul-assoc, pow-zero, pow-suc, pow-le-pow-right, div-eq-of-lt, mod-lt, mod-eq-of-lt}
+use native.Mathlib.Nat.{mul-zero, zero-mul, mul-suc, mul-comm, mul-assoc, pow-zero, pow-suc, pow-le-pow-right, div-eq-of-lt, mod-lt, mod-le, mod-eq-of-lt}
 use native.Mathlib.Numerals.{add-one}
 use native.Mathlib.Omega.{arith}
 use borrow.Author.Tests.{ltb-true, ltb-false, leb-true, leb-false, lt-ltb, le-ltb, le-leb, lt-leb, eq-eqb, ne-eqb}
@@ -411,3 +411,21 @@ fits-value byte text e =
       λ f. lt-of-lt-of-le (significant-holds v (literal-value-lt text)) (mono (leb-true (significant v) (pushSize byte) f)),
       λ h. le-leb (significant v) (pushSize byte) (significant-least v (pushSize byte) (yellow-paper-only byte e .0) h),
     )
+
+-- where no byte is taken nothing fits
+pub nothing-fits : (byte : ℕ) (text : List ℕ) → pushSize byte ≡ 0 → fits byte text ≡ false
+unfolding fits
+nothing-fits byte text e = rw e (lt-leb (significant (literalValue text)) 0 (significant-between (literalValue text) .0))
+
+-- two digits for each byte that a push takes always fit
+square-power : (n : ℕ) → 16 ^ (2 * n) ≡ 256 ^ n
+square-power zero = refl
+square-power (suc n) = rw (mul-suc 2 n, pow-add 16 (2 * n) 2, square-power n, pow-suc 256 n)
+
+pub few-digits-fit : (byte : ℕ) (text : List ℕ) → 1 ≤ pushSize byte → length text ≤ 2 * pushSize byte + 2 → fits byte text ≡ true
+unfolding fits literalValue
+few-digits-fit byte text some few =
+    let n : ℕ = pushSize byte in
+    let small : valueAfter 0 (drop 2 text) < 16 ^ (2 * n) = value-small (drop 2 text) (2 * n) (simp length-drop (omega arith)) in
+    let below : literalValue text < 256 ^ n = lt-of-le-of-lt (mod-le (valueAfter 0 (drop 2 text)) (2 ^ 256)) (rw (square-power n) at small) in
+    le-leb (significant (literalValue text)) n (significant-least (literalValue text) n some below)

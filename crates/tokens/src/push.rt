@@ -28,5 +28,13 @@ pub fn push_size(byte: u32) -> usize
 pub fn push_overflows(byte: u32, literal: &[u8]) -> bool
     ensures { λ r. ⌜ r ≡ not (fits byte (now (literal .entry))) ⌝ }
 {
-    push_size(byte) < significant_bytes(literal)
+    let size = push_size(byte);
+    if size == 0 {
+        return true;
+    }
+    // Two digits a byte always fit, and most literals have no more.
+    if literal.len() <= 2 * size + 2 {
+        return false;
+    }
+    size < significant_bytes(literal)
 }

@@ -373,8 +373,10 @@ fn plain_length(body: &[Statement]) -> Option<u32> {
     let (main, groups) = body.split_at(labels.unwrap_or(body.len()));
     let mut total = part_length(main)?;
     for s in groups {
-        let StatementType::Label(l) = &s.ty else { unreachable!("a statement behind a label that is none") };
-        total += 1 + part_length(&l.inner)?;
+        match &s.ty {
+            StatementType::Label(l) => total += 1 + part_length(&l.inner)?,
+            _ => unreachable!("behind a label stands another statement than a label"),
+        }
     }
     Some(total)
 }

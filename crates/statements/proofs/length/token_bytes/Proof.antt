@@ -4,10 +4,9 @@ use native.Mathlib.Numerals.{add-one}
 use native.Mathlib.Omega.{arith}
 use Rattle.tokens.specs.Literal.{literalValue}
 use Rattle.tokens.proofs.TokenLaws.{view-text}
-use Rattle.tokens.proofs.LiteralLaws.{significant-between}
+use Rattle.tokens.proofs.LiteralLaws.{significant-between, yellow-paper-only}
 use Rattle.statements.specs.Length.{tokenBytes}
 use Rattle.lists.proofs.At.{kind-here, test-yes, test-no}
-use Rattle.statements.proofs.LengthLaws.{push-size-most}
 use borrow.Author.Needs.{needs}
 use Rattle.statements.proofs.length.token_bytes.Statement.{statement}
 use Rattle.statements.proofs.length.token_bytes.Tie as tie
@@ -24,7 +23,7 @@ returns c =
     let a = c .before .before .before .before .before .before .before .args in
     let here = kind-here (now (a .text)) (now (a .tokens)) (now (a .kept)) (a .p) (c .before .before .before .before .before .before .before .pre .1) in
     let push = sym (c .before .before .is-value-push .ensures) ∙ c .before .if1 .taken in
-    (rw (test-yes here (c .before .before .before .match .keys1), push) (c .push-size .ensures), omega (arith, c .push-size .ensures, push-size-most (a .byte) push))
+    (rw (test-yes here (c .before .before .before .match .keys1), push) (c .push-size .ensures), omega (arith, c .push-size .ensures, yellow-paper-only (a .byte) push .1))
 
 text-at-requires : tie.Need-text-at-requires
 text-at-requires c κs = search needs
