@@ -4,8 +4,8 @@
 //!     bench --names    the test for repeated names alone: microseconds a file, by the number of macros
 //!     bench --quick    short lists and few rounds: whether all of it runs, not figures
 //!
-//! What is timed: on one side a call of `simmerotter_read_file` with tables of exactly the need, which it zeroes itself; on the other `Parser::new(list, None)` and
-//! `parse()`, whose list was cloned before, once without and once with the freeing of the list and of what was read: the library has nothing to free. Beside them a call
+//! What is timed: on one side a call of `simmerotter_read_file`, for a body of `simmerotter_read_body`, with tables of exactly the need, which it zeroes itself; on the other `Parser::new(list, None)` and
+//! `parse()` or `parse_body()`, whose list was cloned before, once without and once with the freeing of the list and of what was read: the library has nothing to free. Beside them a call
 //! that makes its own room (`Room`), and a bare pass that adds up the token list's words.
 
 mod shapes;
@@ -17,7 +17,7 @@ mod tokens;
 use huff_parser::Parser;
 use huff_utils::token::Token;
 use shapes::{List, SHAPES};
-use simmerotter::{raw, Room};
+use simmerotter::{raw, Room, NONE};
 use timing::{black_box, sample, spread, Spread};
 
 /// The lent tables, each exactly as long as a list needs.
@@ -33,8 +33,11 @@ impl Tables {
     fn exact(list: &List) -> Tables {
         let n = list.tokens();
         let mut large = Tables { kept: vec![0; n], definitions: vec![0; 12 * n], statements: vec![0; 8 * n], arguments: vec![0; 7 * n] };
-        let [number, cursor, definitions, statements, arguments] = large.read(list);
+        let answer = large.read(list);
+        let [number, cursor, ..] = answer;
         assert_eq!(number, 0, "the list is refused at {cursor}");
+        assert!(!list.is_body || answer[4] != u64::from(NONE), "the body has no plain length");
+        let [definitions, statements, arguments] = if list.is_body { [0, answer[2], answer[3]] } else { [answer[2], answer[3], answer[4]] };
         Tables {
             kept: vec![0; cursor as usize + 1],
             definitions: vec![0; 12 * definitions as usize],
@@ -44,6 +47,9 @@ impl Tables {
     }
 
     fn read(&mut self, list: &List) -> [u64; 5] {
+        if list.is_body {
+            return raw::read_body(&list.text, &list.words, 0, &mut self.kept, &mut self.statements, &mut self.arguments);
+        }
         raw::read_file(&list.text, &list.words, &mut self.kept, &mut self.definitions, &mut self.statements, &mut self.arguments)
     }
 
@@ -67,12 +73,20 @@ struct Times {
 }
 
 /// The Rust's time for reading, and for reading and freeing.
-fn rust_sample(list: &[Token], turns: usize) -> (f64, f64) {
+fn rust_sample(list: &[Token], is_body: bool, turns: usize) -> (f64, f64) {
+    if is_body {
+        timed(list, turns, Parser::parse_body)
+    } else {
+        timed(list, turns, Parser::parse)
+    }
+}
+
+fn timed<T, E>(list: &[Token], turns: usize, parse: fn(&mut Parser) -> Result<T, E>) -> (f64, f64) {
     let mut lists: Vec<Vec<Token>> = (0..turns).map(|_| list.to_vec()).collect();
     let mut kept = Vec::with_capacity(turns);
     let read = sample(turns, || {
         let mut parser = Parser::new(lists.pop().unwrap_or_default(), None);
-        let read = parser.parse();
+        let read = parse(&mut parser);
         assert!(read.is_ok(), "the Rust refuses the list");
         kept.push((parser, read));
     });
@@ -105,9 +119,10 @@ fn measure(list: &List, round: usize, rounds: usize) -> Times {
             black_box(tables.read(black_box(list)));
         });
         let b = sample(turns, || {
-            black_box(room.read_file(black_box(&list.text), black_box(&list.words)).is_ok());
+            let (text, words) = (black_box(&list.text), black_box(&list.words));
+            black_box(if list.is_body { room.read_body(text, words, 0).is_ok() } else { room.read_file(text, words).is_ok() });
         });
-        let (c, e) = rust_sample(&built, (turns / 8).max(1));
+        let (c, e) = rust_sample(&built, list.is_body, (turns / 8).max(1));
         let d = sample(turns, || {
             black_box(black_box(&list.words).iter().fold(0u32, |sum, &word| sum.wrapping_add(word)));
         });

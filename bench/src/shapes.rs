@@ -4,6 +4,8 @@
 pub struct List {
     pub text: Vec<u8>,
     pub words: Vec<u32>,
+    /// Whether it is a body, read by a body call from its first place, and not a file.
+    pub is_body: bool,
     white: bool,
 }
 
@@ -37,9 +39,12 @@ const OPCODE: u32 = 41;
 const NUM: u32 = 42;
 const PRIMITIVE_TYPE: u32 = 45;
 
+/// Of `List::items`, those with a constant, which has no length.
+const CONSTANT_ITEM: usize = 4;
+
 impl List {
     fn new(white: bool) -> List {
-        List { text: Vec::new(), words: Vec::new(), white }
+        List { text: Vec::new(), words: Vec::new(), is_body: false, white }
     }
 
     /// How many tokens.
@@ -99,11 +104,25 @@ impl List {
             1 => self.opcode("push2", 0x61).literal("0x0140"),
             2 => self.opcode("dup1", 0x80).opcode("swap1", 0x90).opcode("add", 0x01),
             3 => self.name("refund").opcode("jumpi", 0x57),
-            4 => self.put(OPEN_BRACKET, "[", 0).name("OWED").put(CLOSE_BRACKET, "]", 0).opcode("sload", 0x54),
+            CONSTANT_ITEM => self.put(OPEN_BRACKET, "[", 0).name("OWED").put(CLOSE_BRACKET, "]", 0).opcode("sload", 0x54),
             5 => self.literal("0x8fc2a3d4e5f60718293a4b5c6d7e8f90a1b2c3d4").opcode("eq", 0x14),
             6 => self.opcode("sstore", 0x55).opcode("pop", 0x50),
             _ => self.opcode("push1", 0x60).literal("0xff").opcode("and", 0x16),
         };
+    }
+
+    /// Items up to about so many tokens of the list, a label after every forty tokens or so.
+    fn long_part(&mut self, tokens: usize, constants: bool) {
+        let mut i = 0;
+        while self.tokens() + 10 < tokens {
+            if i % 16 == 15 {
+                self.put(LABEL, &format!("step_{i}"), 0).put(COLON, ":", 0);
+            }
+            if constants || i % 8 != CONSTANT_ITEM {
+                self.items(i);
+            }
+            i += 1;
+        }
     }
 
     /// A typed list with a name behind every type.
@@ -138,18 +157,21 @@ fn half_white_space(tokens: usize) -> List {
     macros(tokens, true)
 }
 
-/// One macro with a long body, a label after every forty items or so.
+/// One macro with a long body.
 fn long_body(tokens: usize) -> List {
     let mut list = List::new(false);
     list.macro_head("MAIN");
-    let mut i = 0;
-    while list.tokens() + 10 < tokens {
-        if i % 16 == 15 {
-            list.put(LABEL, &format!("step_{i}"), 0).put(COLON, ":", 0);
-        }
-        list.items(i);
-        i += 1;
-    }
+    list.long_part(tokens, true);
+    list.close();
+    list.eof()
+}
+
+/// A body by itself, like the long one but without constants, so that it has a plain length.
+fn body_call(tokens: usize) -> List {
+    let mut list = List::new(false);
+    list.is_body = true;
+    list.put(OPEN_BRACE, "{", 0);
+    list.long_part(tokens, false);
     list.close();
     list.eof()
 }
@@ -219,9 +241,10 @@ pub fn names(count: usize, front: &str) -> List {
 pub type Shape = (&'static str, fn(usize) -> List);
 
 /// All shapes, in the order in which they are measured.
-pub const SHAPES: [Shape; 6] = [
+pub const SHAPES: [Shape; 7] = [
     ("many macros", many_macros),
     ("one long body", long_body),
+    ("a body call", body_call),
     ("one macro of calls", calls),
     ("mixed definitions", mixed),
     ("many code tables", code_tables),

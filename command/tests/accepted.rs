@@ -113,7 +113,7 @@ line:col  places        what
 fn a_push_in_a_label_has_its_operand_or_the_body_no_length() {
     let rows = [
         ("{ go : push4 0x01 }", "plain length 6"),
-        ("{ push1 0x01 go : push2 0x0001 x }", "plain length 9"),
+        ("{ push1 0x01 go : push4 0x0001 x }", "plain length 11"),
         ("{ go : push1 }", "no plain length"),
         ("{ go : push1 0x0100 }", "no plain length"),
         ("{ go : push1 b : 0x01 }", "no plain length"),
