@@ -1,10 +1,9 @@
 #!/usr/bin/env python3
-"""Document 01's rules, read straightforwardly.
+"""The rules, read straightforwardly: document 01 with the requests that are done (docs/requests).
 
 Cases on standard input, answers on standard output, a line each, in the format of docs/CASES.md.
-It follows document 01, the requests that are done (docs/requests) and the readings in docs/DECISIONS.md,
-and shares nothing with the Rust: it is the other side of the comparison. Every answer is given in full, refusals 30 to 35 and all lent
-contents too.
+Where the papers are brief it follows docs/DECISIONS.md, and it shares nothing with the Rust: it is the other
+side of the comparison. Every answer is given in full, refusals 30 to 35 and all lent contents too.
 
   rules.py < cases > answers
 """

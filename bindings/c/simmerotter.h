@@ -72,7 +72,7 @@ enum simmerotter_answer {
     SIMMEROTTER_BODY_STATEMENTS = 2,
     SIMMEROTTER_BODY_ARGUMENTS = 3,
     /* Bytes of code; SIMMEROTTER_NONE if the body holds more than literals, opcodes, labels and label calls, or if a
-     * value push in a label has no literal that fits directly behind it, in the same label. */
+     * value push in a label has directly behind it, in the same label, no literal that fits it. */
     SIMMEROTTER_BODY_PLAIN_LENGTH = 4
 };
 

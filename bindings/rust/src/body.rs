@@ -45,7 +45,7 @@ impl<'a> Body<'a> {
     }
 
     /// The bytes of code that the body makes. `None` if it holds more than literals, opcodes, labels and label calls, or
-    /// if a value push in a label has no literal that fits directly behind it, in the same label.
+    /// if a value push in a label has directly behind it, in the same label, no literal that fits it.
     pub fn plain_length(self) -> Option<u64> {
         self.plain_length
     }

@@ -5,13 +5,14 @@ use native.Mathlib.Omega.{arith}
 use mathlib.Core.Path.{_≡_, refl}
 use mathlib.Core.Bool.{Bool, true, false}
 use mathlib.Core.List.{List, [], _∷_, _++_, flatten}
-use lib.ListN.{length, take, length-append, length-map}
+use lib.ListN.{length, take, drop, length-append, length-drop, length-map}
 use lib.Seq.{length-take-le}
 use Rattle.tokens.specs.Token.{Token}
 use Rattle.grammar.specs.Reading.{Argument, Entry, Simple, Group, Reading}
 use Rattle.grammar.specs.Rules.{Rules}
 use Rattle.grammar.specs.Grammar.{Many, none, more, Separated, alone, comma, Closed, closed, CallArgument, NameArgument, BuiltinArgument, Item, literal, opcode, push, labelCall, invocation, constant, argumentCall, builtin, forget, LabelGroup, group, remember, Body, body, counts}
-use Rattle.grammar.specs.Records.{argumentsOf, groupArguments, allArguments, groupCount, statementCount}
+use Rattle.grammar.specs.Records.{argumentsOf, groupArguments, allArguments, groupCount, statementCount, argumentCount}
+use Rattle.grammar.specs.Follows.{Follows}
 use Rattle.grammar.specs.FileReading.{TableSort, TableEntry, Form, Definition}
 use Rattle.grammar.specs.FileGrammar.{TypedArgument, TypedEntry, typedEntry, typeMay, TypedList, typedList, Parens, parens, OneEntry, oneEntry, forgetEntry, TableBody, tableBody, Rest, ofFunction, ofEvent, ofConstant, ofError, ofMacro, ofTable, Defined, include, define, rememberName, Fresh, fresh}
 use Rattle.grammar.specs.FileRecords.{formArguments, formCount, fileArguments, fileStatementCount}
@@ -135,6 +136,14 @@ body-long m p xs r (body {xs = us} {ys = vs} {is = is} {gs = gs} o c e k g f) =
       omega (arith, i .0, length-append us (vs ++ (c ∷ [])), length-append vs (c ∷ [])),
       omega (arith, i .1, length-append us (vs ++ (c ∷ [])), length-append vs (c ∷ []), length-append (argumentsOf (flatten is)) (groupArguments gs)),
     )
+
+-- so it has no more than there are kept tokens: what room is always enough
+pub follows-fits : (m : Rules) (kept : List Token) (p n : ℕ) (r : Reading) → Follows m kept p n r → (statementCount r ≤ length kept) × (argumentCount r ≤ length kept)
+unfolding argumentCount
+follows-fits m kept p n r f =
+    let h = body-long m p (take n (drop p kept)) r (f .1) in
+    let len = length-take-le n (drop p kept) (omega (arith, length-drop p kept, f .0)) in
+    (omega (arith, h .0, f .0), omega (arith, h .1, f .0))
 
 -- tables
 entry-takes : (sort : TableSort) (p : ℕ) (xs : List Token) (e : TableEntry) → OneEntry sort p xs e → 1 ≤ length xs

@@ -22,6 +22,7 @@ pub mod Numbers
 pub mod FileNames
 pub mod FileRecorded
 pub mod FileBounds
+pub mod Lengths
 pub mod Tabled
 pub mod FileTabled
 pub mod Only

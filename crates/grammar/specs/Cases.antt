@@ -146,7 +146,7 @@ others =
     ∷ acceptedRow (word Label "go" ∷ mark Colon ∷ PUSH1 ∷ word Literal "0x0001" ∷ []) (6 ∷ 3 ∷ 0 ∷ 3 ∷ [])
     ((5 ∷ 1 ∷ 5 ∷ 1 ∷ 2 ∷ 0 ∷ 0 ∷ 1 ∷ []) ∷ (2 ∷ 3 ∷ 4 ∷ 2 ∷ 0 ∷ 0 ∷ 0 ∷ 3 ∷ []) ∷ (1 ∷ 4 ∷ 5 ∷ 3 ∷ 0 ∷ 0 ∷ 0 ∷ 4 ∷ []) ∷ [])
     []
-    -- { go : PUSH1 PUSH1 0x01 }: each push has its own
+    -- { go : PUSH1 PUSH1 0x01 }: each push needs its own
     ∷ acceptedRow (word Label "go" ∷ mark Colon ∷ PUSH1 ∷ PUSH1 ∷ word Literal "0x01" ∷ []) (7 ∷ 4 ∷ 0 ∷ NONE ∷ [])
     ((5 ∷ 1 ∷ 6 ∷ 1 ∷ 3 ∷ 0 ∷ 0 ∷ 1 ∷ []) ∷ (2 ∷ 3 ∷ 4 ∷ 2 ∷ 0 ∷ 0 ∷ 0 ∷ 3 ∷ []) ∷ (2 ∷ 4 ∷ 5 ∷ 3 ∷ 0 ∷ 0 ∷ 0 ∷ 4 ∷ []) ∷ (1 ∷ 5 ∷ 6 ∷ 4 ∷ 0 ∷ 0 ∷ 0 ∷ 5 ∷ []) ∷ [])
     []
@@ -166,10 +166,13 @@ others =
     ∷ acceptedRow (PUSH1 ∷ word Literal "0x01" ∷ word Label "go" ∷ mark Colon ∷ byte 0x61 ∷ word Literal "0x0001" ∷ word Ident "x" ∷ []) (9 ∷ 6 ∷ 0 ∷ 9 ∷ [])
     ((2 ∷ 1 ∷ 2 ∷ 1 ∷ 0 ∷ 0 ∷ 0 ∷ 1 ∷ []) ∷ (1 ∷ 2 ∷ 3 ∷ 2 ∷ 0 ∷ 0 ∷ 0 ∷ 2 ∷ []) ∷ (5 ∷ 3 ∷ 8 ∷ 3 ∷ 3 ∷ 0 ∷ 0 ∷ 3 ∷ []) ∷ (2 ∷ 5 ∷ 6 ∷ 4 ∷ 0 ∷ 0 ∷ 0 ∷ 5 ∷ []) ∷ (1 ∷ 6 ∷ 7 ∷ 5 ∷ 0 ∷ 0 ∷ 0 ∷ 6 ∷ []) ∷ (3 ∷ 7 ∷ 8 ∷ 6 ∷ 0 ∷ 0 ∷ 0 ∷ 7 ∷ []) ∷ [])
     []
-    -- { [ X ] < x > }
-    ∷ acceptedRow (mark OpenBracket ∷ word Ident "X" ∷ mark CloseBracket ∷ mark LeftAngle ∷ word Ident "x" ∷ mark RightAngle ∷ []) (8 ∷ 2 ∷ 0 ∷ NONE ∷ [])
-    ((6 ∷ 1 ∷ 4 ∷ 1 ∷ 0 ∷ 0 ∷ 0 ∷ 2 ∷ []) ∷ (7 ∷ 4 ∷ 7 ∷ 2 ∷ 0 ∷ 0 ∷ 0 ∷ 5 ∷ []) ∷ [])
-    ([])
+    -- { [ X ] }, { < x > }: neither has a length
+    ∷ acceptedRow (mark OpenBracket ∷ word Ident "X" ∷ mark CloseBracket ∷ []) (5 ∷ 1 ∷ 0 ∷ NONE ∷ [])
+    ((6 ∷ 1 ∷ 4 ∷ 1 ∷ 0 ∷ 0 ∷ 0 ∷ 2 ∷ []) ∷ [])
+    []
+    ∷ acceptedRow (mark LeftAngle ∷ word Ident "x" ∷ mark RightAngle ∷ []) (5 ∷ 1 ∷ 0 ∷ NONE ∷ [])
+    ((7 ∷ 1 ∷ 4 ∷ 1 ∷ 0 ∷ 0 ∷ 0 ∷ 2 ∷ []) ∷ [])
+    []
     -- { F ( < x > calldata 0x01 ) }
     ∷ acceptedRow (word Ident "F" ∷ mark OpenParen ∷ mark LeftAngle ∷ word Ident "x" ∷ mark RightAngle ∷ mark Calldata ∷ word Literal "0x01" ∷ mark CloseParen ∷ []) (10 ∷ 1 ∷ 3 ∷ NONE ∷ [])
     ((4 ∷ 1 ∷ 9 ∷ 1 ∷ 0 ∷ 0 ∷ 3 ∷ 1 ∷ []) ∷ [])

@@ -76,6 +76,10 @@ unfoldable pub every : (Instruction → Bool) → List Instruction → Bool
 every test [] = true
 every test (x ∷ xs) = test x && every test xs
 
--- the plain length of a body: "label 1 plus its items", so 1 for each label and the bytes of all instructions
+-- the bytes of instructions together
+abbrev pub totalBytes : List Instruction → ℕ
+totalBytes xs = sum _+_ 0 (map instructionBytes xs)
+
+-- the plain length of a body: "label 1 plus its items", so 1 for each label and the bytes of all instructions; NONE if one of these has no length
 unfoldable pub plainLength : Reading → ℕ
-plainLength r = cond (every hasLength (bodyInstructions r)) (length (r .groups) + sum _+_ 0 (map instructionBytes (bodyInstructions r))) NONE
+plainLength r = cond (every hasLength (bodyInstructions r)) (length (r .groups) + totalBytes (bodyInstructions r)) NONE

@@ -3,33 +3,37 @@ use Prim.Native.Nat.{ℕ, zero, suc, _+_, _-_, _/_, _≤_, _<_}
 use native.Mathlib.Nat.{zero-add}
 use native.Mathlib.Omega.{arith}
 use mathlib.Core.Path.{_≡_, refl, sym, ap, _∙_}
+use mathlib.Core.Logic.{_↔_}
 use mathlib.Core.Bool.{Bool, true, false, cond}
 use mathlib.Core.List.{List, [], _∷_}
 use borrow.Author.Tests.{ltb-true, ltb-false, le-ltb}
 use lib.ListN.{length, getD, take, drop}
 use lib.Dec.{ltb}
 use Rattle.tokens.specs.Number as number
-use Rattle.tokens.specs.Number.{statementWidth, argumentWidth, labelType}
+use Rattle.tokens.specs.Number.{statementWidth, argumentWidth, labelType, mostTokens}
 use Rattle.tokens.specs.Token.{Token}
 use Rattle.tokens.specs.Kept.{keptOf, keptTokens}
 use Rattle.tokens.specs.WellFormed.{WellFormed}
 use Rattle.tokens.specs.Door.{door}
 use Rattle.tokens.proofs.DoorLaws.{kept-not-empty, LetThrough, Means, means-30, means-35, means-31, means-through, door-means, let-through}
+use Rattle.tokens.proofs.KeptLaws.{kept-rising}
 use Rattle.tokens.proofs.TokenLaws.{view-length}
-use Rattle.grammar.specs.Reading.{Reading}
+use Rattle.grammar.specs.Reading.{NONE, Reading}
 use Rattle.grammar.specs.Rules.{base}
 use Rattle.grammar.specs.Result.{Answer, read, refused}
 use Rattle.grammar.specs.Reader.{bodyAt}
 use Rattle.grammar.specs.Facts.{All}
 use Rattle.grammar.specs.Follows.{Follows, FirstWrong, past}
 use Rattle.grammar.specs.Records.{statementRecords, argumentRecords, statementCount, argumentCount}
+use Rattle.grammar.specs.PlainLength.{bodyInstructions, hasLength, every, plainLength}
 use Rattle.grammar.specs.Call.{ReadingNumber, refusal, bodyNumbers, afterDoor, recordsOf, filled, heldAfter}
 use Rattle.grammar.specs.Tables.{BodyTable, typeWord, firstWord, endWord, innerWord, Flat, Walk}
 use Rattle.grammar.specs.Cases.{Outcome, Row, outcome, braced, tokensOf, rows}
 use Rattle.grammar.proofs.Lists.{all-map, all-mapped, agree-length}
 use Rattle.grammar.proofs.Numbers.{body-ours, held-refused}
-use Rattle.grammar.proofs.Demand.{body-exactly, cursor, same-refusal}
+use Rattle.grammar.proofs.Demand.{body-exactly, only-one, cursor, same-refusal}
 use Rattle.grammar.proofs.Recorded.{as-many, as-wide}
+use Rattle.grammar.proofs.Lengths.{none-exactly}
 use Rattle.grammar.proofs.Tabled.{stored-filled, body-tabled, body-walked, walk-labels-all}
 use Rattle.grammar.proofs.Cases.{outcomes, rows-hold}
 use Rattle.statements.specs.declared.entry.Body.{Body}
@@ -187,6 +191,19 @@ module _ {text words : List ℕ} {start : ℕ} {kept statements arguments : List
       → (x : ℕ) → x < n → typeWord statements′ x ≡ labelType
       → Flat statements′ (suc x) (innerWord statements′ x) (suc (suc (firstWord statements′ x))) (endWord statements′ x)
   call-labels q n m size is x = walk-labels-all statements′ 0 (suc start) n (q - 1) (call-ranges q n m size is) x (omega arith)
+
+  -- ---- the plain length
+
+  -- the last number of an accepted call, for the reading of its tokens: the plain length, and NONE exactly if one of its instructions has no length
+  pub call-length : (q n m size : ℕ) → values r ≡ 0 ∷ q ∷ n ∷ m ∷ size ∷ []
+      → (k : ℕ) (rd : Reading) → Follows base tokens start k rd
+      → (size ≡ plainLength rd) × ((size ≡ NONE) ↔ (every hasLength (bodyInstructions rd) ≡ false))
+  call-length q n m size is k rd f =
+      let a = accepted (number-is is) in
+      let same = only-one base tokens start (a .n) k (a .rd) rd (a .follows) f in
+      let told : size ≡ plainLength rd = sym (ap (λ (w : List ℕ). getD w 4 0) (sym (a .holds .answer) ∙ is)) ∙ ap plainLength (same .1) in
+      let few : length tokens ≤ mostTokens = omega (arith, a .through .few, kept-rising words .few, view-length text words (keptOf words)) in
+      (told, rw told (none-exactly base tokens start k rd few f))
 
   -- ---- the cursor
 

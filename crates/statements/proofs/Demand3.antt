@@ -23,7 +23,7 @@ use Rattle.grammar.proofs.Demand.{body-exactly, body-some, only-one}
 use Rattle.grammar.proofs.Recorded.{as-many}
 use Rattle.statements.specs.declared.entry.Body.{Body}
 use Rattle.statements.specs.Call.{numberOf, readingAt, BodyCall}
-use Rattle.statements.proofs.Bounds.{follows-fits}
+use Rattle.grammar.proofs.FileBounds.{follows-fits}
 use Rattle.statements.proofs.Called.{Room, Holding, accepted, with-room, call-ranges}
 
 module _ {text words : List ℕ} {start : ℕ} {kept statements arguments : List ℕ} {r : Body} {kept′ statements′ arguments′ : List ℕ}

@@ -6,7 +6,7 @@ use native.Mathlib.Omega.{arith}
 use mathlib.Core.Path.{_≡_, refl, sym, ap, subst, _∙_}
 use mathlib.Core.Logic.{⊎-elim}
 use mathlib.Core.Bool.{Bool, true, false, cond, not, _&&_, _||_, and-assoc, and-true, and-false, and-eq-true-iff, true≢false}
-use mathlib.Core.List.{List, [], _∷_, _++_, append-assoc, map-append, flatten, map, sum, sum-append}
+use mathlib.Core.List.{List, [], _∷_, _++_, append-assoc, flatten, map, sum}
 use lib.Dec.{eqb}
 use lib.ListN.{length, take, drop, drop-of-length-le, take-append-drop, List·getD-eq-default}
 use lib.Seq.{drop-cons, drop-drop}
@@ -18,8 +18,9 @@ use Rattle.grammar.specs.Reading.{NONE, aLiteral, anOpcode, Simple, Group, Read
 use Rattle.grammar.specs.Rules.{Rules}
 use Rattle.grammar.specs.Grammar.{Many, none, more, Item, literal, opcode, push, labelCall, invocation, constant, argumentCall, builtin, forget, Items, LabelGroup, group, remember, Body, body}
 use Rattle.grammar.specs.Follows.{Follows}
-use Rattle.grammar.specs.PlainLength.{isA, valuePush, isOperand, measured, hasLength, ownBytes, instructionBytes, Instruction, instructions, bodyInstructions, every, plainLength}
+use Rattle.grammar.specs.PlainLength.{isA, valuePush, isOperand, measured, hasLength, ownBytes, totalBytes, Instruction, instructions, bodyInstructions, every, plainLength}
 use Rattle.grammar.proofs.Operands.{is-a, counted-alone}
+use Rattle.grammar.proofs.Lengths.{total-append}
 use Rattle.statements.specs.Length.{plainKind, opcodeByte, mayFollow, tokenBytes, lengthOn, lengthFrom}
 
 -- ---- a token of the walk
@@ -150,10 +151,6 @@ walk-lacks b s l ss on v o =
 abbrev unlessPush : ℕ → ℕ → ℕ
 unlessPush byte x = cond (not (isValuePush byte)) x NONE
 
--- the bytes of instructions together
-abbrev totalBytes : List Instruction → ℕ
-totalBytes xs = sum _+_ 0 (map instructionBytes xs)
-
 module _ (K : ℕ → ℕ) where
   -- the end of a part, with what is done behind it
   abbrev ends : ℕ → ℕ → ℕ
@@ -241,9 +238,6 @@ measured-append : (u v : List Instruction) → every hasLength (u ++ v) ≡ (eve
 unfolding every
 measured-append [] v = refl
 measured-append (x ∷ u) v = rw (measured-append u v) (sym (and-assoc (hasLength x) (every hasLength u) (every hasLength v)))
-
-total-append : (u v : List Instruction) → totalBytes (u ++ v) ≡ totalBytes u + totalBytes v
-total-append u v = ap (sum _+_ 0) (map-append instructionBytes u v) ∙ sum-append _+_ 0 zero-add add-assoc (map instructionBytes u) (map instructionBytes v)
 
 -- one part behind another: b bytes before them, n behind
 joined : (u v : List Instruction) (b n : ℕ)

@@ -6,6 +6,5 @@ pub mod BodyLaws
 pub mod LengthLaws
 pub mod EntryLaws
 pub mod Fixed
-pub mod Bounds
 pub mod Called
 pub mod Demand3

@@ -1,4 +1,4 @@
--- The promise of `read_body`: document 01's answer, and what every lent thing holds afterwards.
+-- The promise of `read_body`: the answer by document 01 and the requests that are done, and what every lent thing holds afterwards.
 use Prim.Native.Nat.{ℕ, _/_}
 use mathlib.Core.Path.{_≡_}
 use mathlib.Core.Bool.{cond}
