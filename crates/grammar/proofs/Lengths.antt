@@ -4,26 +4,27 @@ use native.Mathlib.Nat.{zero-add, add-assoc}
 use native.Mathlib.Omega.{arith}
 use mathlib.Core.Path.{_≡_, refl, ap, _∙_}
 use mathlib.Core.Logic.{_↔_}
-use mathlib.Core.Bool.{Bool, true, false, cond, _&&_, and-eq-true-iff, true≢false}
+use mathlib.Core.Bool.{Bool, true, false, cond, true≢false}
 use mathlib.Core.List.{List, [], _∷_, _++_, map, map-append, flatten, sum, sum-append}
 use lib.ListN.{length}
 use Rattle.tokens.specs.Number.{mostTokens}
 use Rattle.tokens.specs.Token.{Token}
-use Rattle.tokens.specs.Push.{isValuePush, fits, pushSize}
+use Rattle.tokens.specs.Push.{pushSize}
 use Rattle.tokens.specs.Literal.{literalValue}
 use Rattle.tokens.proofs.LiteralLaws.{significant-between, yellow-paper-only}
 use Rattle.grammar.specs.Reading.{NONE, Sort, aLiteral, anOpcode, aLabelCall, anInvocation, aConstant, anArgumentCall, aBuiltin, Simple, Group, Reading}
 use Rattle.grammar.specs.Records.{groupCount, statementCount}
 use Rattle.grammar.specs.Rules.{Rules}
 use Rattle.grammar.specs.Follows.{Follows}
-use Rattle.grammar.specs.PlainLength.{isA, valuePush, isOperand, Instruction, instructions, bodyInstructions, ownBytes, instructionBytes, totalBytes, hasLength, every, plainLength}
+use Rattle.grammar.specs.PlainLength.{isOperand, Instruction, instructions, bodyInstructions, ownBytes, instructionBytes, totalBytes, hasLength, every, plainLength}
+use Rattle.grammar.proofs.Operands.{operand-says}
 use Rattle.grammar.proofs.FileBounds.{follows-fits}
 
 -- one part behind another
 pub total-append : (u v : List Instruction) → totalBytes (u ++ v) ≡ totalBytes u + totalBytes v
 total-append u v = ap (sum _+_ 0) (map-append instructionBytes u v) ∙ sum-append _+_ 0 zero-add add-assoc (map instructionBytes u) (map instructionBytes v)
 
--- the most bytes that a statement counts: a literal's 32 and the byte of its push
+-- the most that a statement counts: 1 plus a literal's 32 bytes
 abbrev most : ℕ
 most = 33
 
@@ -38,10 +39,7 @@ own-most aBuiltin t = omega arith
 
 -- a push that has an operand takes at most 32 bytes
 operand-most : (s l : Simple) → isOperand s l ≡ true → pushSize (s .token .extra) ≤ most
-operand-most s l e =
-    let push = and-eq-true-iff (valuePush s && isA aLiteral l) (fits (s .token .extra) (l .token .text)) .0 e .0 in
-    let value = and-eq-true-iff (isA anOpcode s) (isValuePush (s .token .extra)) .0 (and-eq-true-iff (valuePush s) (isA aLiteral l) .0 push .0) .1 in
-    omega (arith, yellow-paper-only (s .token .extra) value .1)
+operand-most s l e = omega (arith, yellow-paper-only (s .token .extra) (operand-says s l e .1) .1)
 
 -- a part counts at most so many for each of its statements
 part-most : (ss : List Simple) → totalBytes (instructions ss) ≤ most * length ss

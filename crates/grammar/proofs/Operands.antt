@@ -2,13 +2,14 @@
 -- without a length. Assumes nothing.
 use Prim.Native.Nat.{ℕ, suc, _+_}
 use mathlib.Core.Path.{_≡_, refl, sym, ap, _∙_}
-use mathlib.Core.Bool.{true, false, cond, not, _&&_}
+use mathlib.Core.Bool.{true, false, cond, not, _&&_, and-eq-true-iff}
 use mathlib.Core.List.{List, [], _∷_, _++_, flatten}
 use lib.Dec.{eqb}
 use lib.ListN.{length, take, drop}
 use borrow.Author.Tests.{eqb-true}
 use Rattle.tokens.specs.Number.{literalType, opcodeType, labelCallType, invocationType, constantType, argumentCallType}
 use Rattle.tokens.specs.Token.{Token}
+use Rattle.tokens.specs.Push.{isValuePush, fits}
 use Rattle.grammar.specs.Reading.{Sort, aLiteral, anOpcode, aLabelCall, anInvocation, aConstant, anArgumentCall, aBuiltin, Simple, Reading}
 use Rattle.grammar.specs.Records.{typeOf}
 use Rattle.grammar.specs.Rules.{Rules}
@@ -38,6 +39,15 @@ sort-back aBuiltin = refl
 
 pub is-a : (sort : Sort) (s : Simple) → isA sort s ≡ true → s .sort ≡ sort
 is-a sort s e = sym (sort-back (s .sort)) ∙ ap sortOf (eqb-true (typeOf (s .sort)) (typeOf sort) e) ∙ sort-back sort
+
+-- what an operand is, test by test
+pub operand-says : (s l : Simple) → isOperand s l ≡ true
+    → (isA anOpcode s ≡ true) × (isValuePush (s .token .extra) ≡ true) × (isA aLiteral l ≡ true) × (fits (s .token .extra) (l .token .text) ≡ true)
+operand-says s l e =
+    let both = and-eq-true-iff (valuePush s && isA aLiteral l) (fits (s .token .extra) (l .token .text)) .0 e in
+    let sorts = and-eq-true-iff (valuePush s) (isA aLiteral l) .0 (both .0) in
+    let push = and-eq-true-iff (isA anOpcode s) (isValuePush (s .token .extra)) .0 (sorts .0) in
+    (push .0, push .1, sorts .1, both .1)
 
 -- what is no operand is counted by itself
 pub counted-alone : (s l : Simple) (ss : List Simple) → isOperand s l ≡ false → instructions (s ∷ l ∷ ss) ≡ record { statement = s; withOperand = false } ∷ instructions (l ∷ ss)

@@ -19,7 +19,7 @@ use Rattle.grammar.specs.Rules.{Rules}
 use Rattle.grammar.specs.Grammar.{Many, none, more, Item, literal, opcode, push, labelCall, invocation, constant, argumentCall, builtin, forget, Items, LabelGroup, group, remember, Body, body}
 use Rattle.grammar.specs.Follows.{Follows}
 use Rattle.grammar.specs.PlainLength.{isA, valuePush, isOperand, measured, hasLength, ownBytes, totalBytes, Instruction, instructions, bodyInstructions, every, plainLength}
-use Rattle.grammar.proofs.Operands.{is-a, counted-alone}
+use Rattle.grammar.proofs.Operands.{is-a, operand-says, counted-alone}
 use Rattle.grammar.proofs.Lengths.{total-append}
 use Rattle.statements.specs.Length.{plainKind, opcodeByte, mayFollow, tokenBytes, lengthOn, lengthFrom}
 
@@ -179,10 +179,8 @@ module _ (K : ℕ → ℕ) where
   count-push : (s l : Simple) (ss : List Simple) → isOperand s l ≡ true → Counted ss → Counted (s ∷ l ∷ ss)
   unfolding walk instructions every sum
   count-push s l ss o h b =
-      let both = and-eq-true-iff (valuePush s && isA aLiteral l) (fits (s .token .extra) (l .token .text)) .0 o in
-      let sorts = and-eq-true-iff (valuePush s) (isA aLiteral l) .0 (both .0) in
-      let push = and-eq-true-iff (isA anOpcode s) (isValuePush (s .token .extra)) .0 (sorts .0) in
-      rw (o, is-a anOpcode s (push .0), is-a aLiteral l (sorts .1), push .1, both .1, no-push)
+      let says = operand-says s l o in
+      rw (o, is-a anOpcode s (says .0), is-a aLiteral l (says .2), says .1, says .3, no-push)
       (h (b + 1 + pushSize (s .token .extra)) ∙ ap (λ (n : ℕ). cond (every hasLength (instructions ss)) (K n) NONE) (omega arith))
 
   count-lacks : (s l : Simple) (ss : List Simple) → valuePush s ≡ true → isOperand s l ≡ false → Counted (s ∷ l ∷ ss)
