@@ -65,7 +65,7 @@ unfolding bodyInstructions statementCount
 body-most r =
     omega (arith, total-append (instructions (r .main)) (flatten (map (λ (x : Group). instructions (x .inner)) (r .groups))), part-most (r .main), groups-most (r .groups))
 
--- The theorem: in a list as long as any that is let through, a body has NONE exactly if one of its instructions has no length
+-- The theorem: in a list of no more tokens than are let through, a body has NONE exactly if one of its instructions has no length
 pub none-exactly : (m : Rules) (kept : List Token) (p n : ℕ) (r : Reading) → length kept ≤ mostTokens → Follows m kept p n r
     → (plainLength r ≡ NONE) ↔ (every hasLength (bodyInstructions r) ≡ false)
 unfolding plainLength
