@@ -16,7 +16,7 @@ use Rattle.grammar.specs.Reading.{NONE, Sort, aLiteral, anOpcode, aLabel
 use Rattle.grammar.specs.Records.{groupCount, statementCount}
 use Rattle.grammar.specs.Rules.{Rules}
 use Rattle.grammar.specs.Follows.{Follows}
-use Rattle.grammar.specs.PlainLength.{isOperand, Instruction, instructions, bodyInstructions, ownBytes, instructionBytes, totalBytes, hasLength, every, plainLength}
+use Rattle.grammar.specs.PlainLength.{isOperand, Instruction, instructions, groupInstructions, bodyInstructions, ownBytes, instructionBytes, totalBytes, hasLength, every, plainLength}
 use Rattle.grammar.proofs.Operands.{operand-says}
 use Rattle.grammar.proofs.FileBounds.{follows-fits}
 
@@ -54,16 +54,14 @@ part-most (s ∷ l ∷ ss) = by (isOperand s l) refl (part-most ss) (part-most (
     by false e h k = rw e (omega (arith, own-most (s .sort) (s .token), k))
 
 -- labels, each with its own byte
-groups-most : (gs : List Group) → length gs + totalBytes (flatten (map (λ (g : Group). instructions (g .inner)) gs)) ≤ most * groupCount gs
+groups-most : (gs : List Group) → length gs + totalBytes (groupInstructions gs) ≤ most * groupCount gs
 unfolding groupCount flatten sum
 groups-most [] = omega arith
-groups-most (g ∷ gs) =
-    omega (arith, total-append (instructions (g .inner)) (flatten (map (λ (x : Group). instructions (x .inner)) gs)), part-most (g .inner), groups-most gs)
+groups-most (g ∷ gs) = omega (arith, total-append (instructions (g .inner)) (groupInstructions gs), part-most (g .inner), groups-most gs)
 
 body-most : (r : Reading) → length (r .groups) + totalBytes (bodyInstructions r) ≤ most * statementCount r
 unfolding bodyInstructions statementCount
-body-most r =
-    omega (arith, total-append (instructions (r .main)) (flatten (map (λ (x : Group). instructions (x .inner)) (r .groups))), part-most (r .main), groups-most (r .groups))
+body-most r = omega (arith, total-append (instructions (r .main)) (groupInstructions (r .groups)), part-most (r .main), groups-most (r .groups))
 
 -- The theorem: in a list of no more tokens than are let through, a body has NONE exactly if one of its instructions has no length
 pub none-exactly : (m : Rules) (kept : List Token) (p n : ℕ) (r : Reading) → length kept ≤ mostTokens → Follows m kept p n r

@@ -35,9 +35,13 @@ instructions (s ∷ l ∷ ss) =
     cond (isOperand s l) (record { statement = s; withOperand = true } ∷ instructions ss)
     (record { statement = s; withOperand = false } ∷ instructions (l ∷ ss))
 
--- of a body, part by part: an operand stands "in the same label"
+-- of labels, one by one: an operand stands "in the same label"
+abbrev pub groupInstructions : List Group → List Instruction
+groupInstructions gs = flatten (map (λ (g : Group). instructions (g .inner)) gs)
+
+-- of a body
 unfoldable pub bodyInstructions : Reading → List Instruction
-bodyInstructions r = instructions (r .main) ++ flatten (map (λ (g : Group). instructions (g .inner)) (r .groups))
+bodyInstructions r = instructions (r .main) ++ groupInstructions (r .groups)
 
 -- "opcode 1; .. label call 3; .. any other literal 1 plus its significant bytes"; the other sorts have none, and 0 stands for it
 abbrev pub ownBytes : Sort → Token → ℕ

@@ -6,7 +6,7 @@ use native.Mathlib.Omega.{arith}
 use mathlib.Core.Path.{_≡_, refl, sym, ap, subst, _∙_}
 use mathlib.Core.Logic.{⊎-elim}
 use mathlib.Core.Bool.{Bool, true, false, cond, not, _&&_, _||_, and-assoc, and-true, and-false, and-eq-true-iff, true≢false}
-use mathlib.Core.List.{List, [], _∷_, _++_, append-assoc, flatten, map, sum}
+use mathlib.Core.List.{List, [], _∷_, _++_, append-assoc, flatten, sum}
 use lib.Dec.{eqb}
 use lib.ListN.{length, take, drop, drop-of-length-le, take-append-drop, List·getD-eq-default}
 use lib.Seq.{drop-cons, drop-drop}
@@ -18,7 +18,7 @@ use Rattle.grammar.specs.Reading.{NONE, aLiteral, anOpcode, Simple, Group, Read
 use Rattle.grammar.specs.Rules.{Rules}
 use Rattle.grammar.specs.Grammar.{Many, none, more, Item, literal, opcode, push, labelCall, invocation, constant, argumentCall, builtin, forget, Items, LabelGroup, group, remember, Body, body}
 use Rattle.grammar.specs.Follows.{Follows}
-use Rattle.grammar.specs.PlainLength.{isA, valuePush, isOperand, measured, hasLength, ownBytes, totalBytes, Instruction, instructions, bodyInstructions, every, plainLength}
+use Rattle.grammar.specs.PlainLength.{isA, valuePush, isOperand, measured, hasLength, ownBytes, totalBytes, Instruction, instructions, groupInstructions, bodyInstructions, every, plainLength}
 use Rattle.grammar.proofs.Operands.{is-a, operand-says, counted-alone}
 use Rattle.grammar.proofs.Lengths.{total-append}
 use Rattle.statements.specs.Length.{plainKind, opcodeByte, mayFollow, tokenBytes, lengthOn, lengthFrom}
@@ -227,10 +227,6 @@ part-length takes p xs is b ys m h =
     items-walk takes tt p xs is 0 b ys m
     ∙ walk-same 0 b (flatten is) (λ byte c. lengthOn byte c ys) (λ byte c. unlessPush byte (lengthOn 0 c ys)) h
     ∙ part-counted (λ c. lengthOn 0 c ys) (flatten is) b
-
--- the instructions of labels
-abbrev groupInstructions : List Group → List Instruction
-groupInstructions gs = flatten (map (λ (g : Group). instructions (g .inner)) gs)
 
 measured-append : (u v : List Instruction) → every hasLength (u ++ v) ≡ (every hasLength u && every hasLength v)
 unfolding every
