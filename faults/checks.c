@@ -1,5 +1,7 @@
 #include "checks.h"
 
+#include <stdio.h>
+#include <stdlib.h>
 #include <string.h>
 
 #include "kinds.h"
@@ -78,6 +80,8 @@ static size_t count_kept(const struct call *c, size_t tokens)
 struct door door_of(const struct call *c)
 {
     size_t tokens = c->tokens_len / TOKEN;
+    if (c->mode > STRICT_MODE)
+        return (struct door){36, 0, 0};
     if (c->text_len > MOST_TEXT || c->tokens_len % TOKEN != 0 || tokens == 0 || tokens > MOST_TOKENS)
         return (struct door){30, 0, 0};
     size_t bad = first_bad(c, tokens);
@@ -93,13 +97,17 @@ struct door door_of(const struct call *c)
 
 bool leaves_all(uint64_t number)
 {
-    return number == 30 || number == 31 || number == 35;
+    return number == 30 || number == 31 || number == 35 || number == 36;
 }
 
-/* The numbers of the table that this entry can give. 2, 3, 9 and 11 belong to things outside bodies. */
-static bool number_is_known(bool body, uint64_t number)
+/* The numbers of the table that this entry can give in this mode. 2, 3, 9 and 11 belong to things outside bodies. */
+static bool number_is_known(const struct call *c, uint64_t number)
 {
-    if (body)
+    if (number == 22)
+        return c->mode == STRICT_MODE;
+    if (number == 36)
+        return c->mode > STRICT_MODE;
+    if (c->body)
         return number <= 1 || (number >= 4 && number <= 8) || number == 10 || number == 12 || number == 13 ||
                number == 30 || number == 31 || (number >= 33 && number <= 35);
     return number <= 13 || number == 20 || number == 21 || number == 30 || (number >= 32 && number <= 35);
@@ -319,6 +327,96 @@ static uint64_t plain_length(const struct call *c, uint64_t statements)
     return length;
 }
 
+/* Strict reading, from the records: what mode 1 asks of a body that it accepts. */
+
+struct name {
+    const uint8_t *own;
+    size_t length;
+};
+
+static struct name name_at(const struct call *c, size_t place)
+{
+    const uint32_t *word = c->tokens + TOKEN * c->kept[place];
+    return (struct name){c->text + word[1], word[2] - word[1]};
+}
+
+static int by_name(const void *one, const void *other)
+{
+    const struct name *a = one, *b = other;
+    if (a->length != b->length)
+        return a->length < b->length ? -1 : 1;
+    return memcmp(a->own, b->own, a->length);
+}
+
+/* A value push has its literal directly behind it, which fits: in a label as in the macro part. */
+static bool pushes_are_whole(const struct call *c, const uint32_t *records, uint64_t count)
+{
+    for (uint64_t i = 0; i < count; i++) {
+        const uint32_t *s = records + STATEMENT * i, *behind = s + STATEMENT;
+        uint32_t pushed = pushed_bytes(c, s);
+        if (pushed == 0)
+            continue;
+        if (i + 1 == count || behind[0] != 1 || behind[7] != s[7] + 1 || significant_bytes(c, behind[7]) > pushed)
+            return false;
+    }
+    return true;
+}
+
+/* No two labels have the same name: sorted, they would stand next to each other. */
+static bool labels_differ(const struct call *c, const uint32_t *records, uint64_t count)
+{
+    bool differ = true;
+    size_t labels = 0;
+    struct name *names = malloc((count + 1) * sizeof *names);
+    if (names == NULL) {
+        perror("malloc");
+        exit(2);
+    }
+    for (uint64_t i = 0; i < count; i++)
+        if (records[STATEMENT * i] == 5)
+            names[labels++] = name_at(c, records[STATEMENT * i + 7]);
+    qsort(names, labels, sizeof *names, by_name);
+    for (size_t i = 1; i < labels; i++)
+        differ = differ && by_name(names + i - 1, names + i) != 0;
+    free(names);
+    return differ;
+}
+
+static const char *broken_strict_body(const struct call *c, const uint32_t *records, uint64_t count)
+{
+    if (!pushes_are_whole(c, records, count))
+        return "in mode 1 every value push of an accepted body has its literal";
+    return labels_differ(c, records, count) ? NULL : "in mode 1 no two labels of an accepted body have the same name";
+}
+
+/* Of a file the bodies of macros, fns and tests. */
+static const char *broken_strict(const struct call *c, struct counts n)
+{
+    const char *rule = NULL;
+    if (c->body)
+        return broken_strict_body(c, c->statements, n.statements);
+    for (uint64_t i = 0; rule == NULL && i < n.definitions; i++) {
+        const uint32_t *d = c->definitions + DEFINITION * i;
+        if (d[0] >= 6 && d[0] <= 8)
+            rule = broken_strict_body(c, c->statements + STATEMENT * (size_t)d[8], d[9]);
+    }
+    return rule;
+}
+
+/* The Label here has the name of an earlier one of its body. */
+static bool repeats_label(const struct call *c, size_t place)
+{
+    struct name own = name_at(c, place), other;
+    if (kind_at(c, place) != LABEL)
+        return false;
+    while (place-- > 0 && kind_at(c, place) != OPEN_BRACE) {
+        other = name_at(c, place);
+        if (kind_at(c, place) == LABEL && by_name(&own, &other) == 0)
+            return true;
+    }
+    return false;
+}
+
 /* Answers. */
 
 static const char *broken_acceptance(const struct call *c, size_t kept_count)
@@ -337,7 +435,7 @@ static const char *broken_acceptance(const struct call *c, size_t kept_count)
         return "an accepted body's cursor is one past its brace";
     if (c->body && c->answer[4] != plain_length(c, n.statements))
         return "the plain length is that of the statements";
-    return NULL;
+    return c->mode == STRICT_MODE ? broken_strict(c, n) : NULL;
 }
 
 /* 32 to 34: more records are needed than the table has. */
@@ -360,11 +458,13 @@ static const char *broken_refusal(const struct call *c, size_t kept_count)
     if (a[0] >= 32)
         return is_too_small(c) ? NULL : "a table called too small has fewer records than needed";
     if (a[1] >= kept_count)
-        return "the cursor of 1 to 21 is the place of a kept token";
+        return "the cursor of 1 to 22 is the place of a kept token";
     if (a[0] == 20 && kind_at(c, a[1]) != IDENT)
         return "the cursor of 20 is a name";
     if (a[0] == 21 && kind_at(c, a[1]) != POUND)
         return "the cursor of 21 is Pound";
+    if (a[0] == 22 && !repeats_label(c, a[1]))
+        return "the cursor of 22 is a Label named like an earlier one of its body";
     return NULL;
 }
 
@@ -378,8 +478,8 @@ static const char *broken_at_door(const struct call *c, struct door door)
 {
     const uint64_t *a = c->answer;
     if (a[0] != door.number || a[1] != door.cursor || a[2] != 0 || a[3] != 0 || a[4] != 0)
-        return "30, 35 and 31 are given in this order, with their cursors";
-    return all_untouched(c) ? NULL : "after 30, 31 and 35 nothing lent has changed";
+        return "36, 30, 35 and 31 are given in this order, with their cursors";
+    return all_untouched(c) ? NULL : "after 30, 31, 35 and 36 nothing lent has changed";
 }
 
 const char *broken_rule(const struct call *c, const struct maker *m)
@@ -389,14 +489,14 @@ const char *broken_rule(const struct call *c, const struct maker *m)
     if (!is_defined(c->answer, 5 * sizeof *c->answer))
         return "all five numbers of the answer are written";
     number = c->answer[0];
-    if (!number_is_known(c->body, number))
-        return "the number is one of the table, and of this entry";
+    if (!number_is_known(c, number))
+        return "the number is one of the table, and of this entry and mode";
     if (!inputs_kept(c, m))
         return "text and tokens are only read";
     if (door.number != 0)
         return broken_at_door(c, door);
     if (leaves_all(number))
-        return "30, 31 and 35 are given only where their rules say so";
+        return "30, 31, 35 and 36 are given only where their rules say so";
     if (!kept_is_right(c, door.kept_count))
         return "the kept list has the numbers of the kept tokens, its words beyond are untouched";
     if (!tables_are_defined(c))

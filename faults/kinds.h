@@ -12,6 +12,9 @@ enum kind {
 
 enum { MOST_TEXT = 1048576, MOST_TOKENS = 65536, TOKEN = 4, DEFINITION = 12, STATEMENT = 8, ARGUMENT = 7 };
 
+/* The modes there are. */
+enum { PLAIN_MODE, STRICT_MODE };
+
 #define NONE 4294967295u
 
 #endif

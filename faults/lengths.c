@@ -37,39 +37,39 @@ static int is_answer(const char *what, const uint64_t *answer, uint64_t number, 
     return 0;
 }
 
-static int long_text(uint8_t *text, size_t length)
+static int long_text(uint32_t mode, uint8_t *text, size_t length)
 {
     uint64_t body[5], file[5];
     uint32_t empty[1];
-    simmerotter_read_body(text, length, TOKENS, WORDS, 0, kept, KEPT, empty, 0, empty, 0, body);
-    simmerotter_read_file(text, length, TOKENS, WORDS, kept, KEPT, empty, 0, empty, 0, empty, 0, file);
+    simmerotter_read_body(mode, text, length, TOKENS, WORDS, 0, kept, KEPT, empty, 0, empty, 0, body);
+    simmerotter_read_file(mode, text, length, TOKENS, WORDS, kept, KEPT, empty, 0, empty, 0, empty, 0, file);
     return is_answer("a long text, body", body, 30, 0) && is_answer("a long text, file", file, 30, 0);
 }
 
-static int long_tokens(uint32_t *tokens, size_t length)
+static int long_tokens(uint32_t mode, uint32_t *tokens, size_t length)
 {
     uint64_t body[5], file[5];
     uint32_t empty[1];
-    simmerotter_read_body(TEXT, 2, tokens, length, 0, kept, KEPT, empty, 0, empty, 0, body);
-    simmerotter_read_file(TEXT, 2, tokens, length, kept, KEPT, empty, 0, empty, 0, empty, 0, file);
+    simmerotter_read_body(mode, TEXT, 2, tokens, length, 0, kept, KEPT, empty, 0, empty, 0, body);
+    simmerotter_read_file(mode, TEXT, 2, tokens, length, kept, KEPT, empty, 0, empty, 0, empty, 0, file);
     return is_answer("long tokens, body", body, 30, 0) && is_answer("long tokens, file", file, 30, 0);
 }
 
 /* Long enough, though its length in 32 bits would not be. */
-static int long_kept(uint32_t *list, size_t length)
+static int long_kept(uint32_t mode, uint32_t *list, size_t length)
 {
     uint64_t body[5], file[5];
     uint32_t empty[1];
-    simmerotter_read_body(TEXT, 2, TOKENS, WORDS, 0, list, length, empty, 0, empty, 0, body);
-    simmerotter_read_file(TEXT, 2, TOKENS, WORDS, list, length, empty, 0, empty, 0, empty, 0, file);
+    simmerotter_read_body(mode, TEXT, 2, TOKENS, WORDS, 0, list, length, empty, 0, empty, 0, body);
+    simmerotter_read_file(mode, TEXT, 2, TOKENS, WORDS, list, length, empty, 0, empty, 0, empty, 0, file);
     return is_answer("a long kept list, body", body, 0, 2) && is_answer("a long kept list, file", file, 1, 0);
 }
 
-static int far_start(size_t start)
+static int far_start(uint32_t mode, size_t start)
 {
     uint64_t body[5];
     uint32_t empty[1];
-    simmerotter_read_body(TEXT, 2, TOKENS, WORDS, start, kept, KEPT, empty, 0, empty, 0, body);
+    simmerotter_read_body(mode, TEXT, 2, TOKENS, WORDS, start, kept, KEPT, empty, 0, empty, 0, body);
     return is_answer("a far start", body, 31, start);
 }
 
@@ -83,11 +83,15 @@ int main(void)
     }
     text[0] = TEXT[0];
     text[1] = TEXT[1];
-    int good = long_text(text, WRAP + 2) && long_kept(words, WRAP + 1) && far_start(WRAP) && far_start(SIZE_MAX);
+    int good = 1;
+    for (uint32_t mode = 0; mode <= 1; mode++)
+        good = good && long_text(mode, text, WRAP + 2) && long_kept(mode, words, WRAP + 1) && far_start(mode, WRAP) &&
+               far_start(mode, SIZE_MAX);
     for (size_t i = 0; i < WORDS; i++)
         words[i] = TOKENS[i];
-    good = good && long_tokens(words, WRAP + WORDS);
+    for (uint32_t mode = 0; mode <= 1; mode++)
+        good = good && long_tokens(mode, words, WRAP + WORDS);
     if (good)
-        printf("lengths and starts above 2^32: 8 calls as document 01 says\n");
+        printf("lengths and starts above 2^32: 16 calls as document 01 says\n");
     return good ? 0 : 1;
 }

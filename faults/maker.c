@@ -21,6 +21,12 @@ static const char *const RESERVED[] = {"uint256", "bool", "address", "bytes32", 
 static const char *const NEARLY[] = {"uint7", "bytes33", "uint08", "int264", "bytes0", "Bool", "uint2560", "addres",
                                      "addresss", "in", "byte", "uint0", "bytes01", "bytes3_", "strings"};
 static const char *const LABELS[] = {"l", "go", "end", "uint256"};
+/* Labels' names that are close to each other: in one byte, in case, as a prefix, in length or in zero bytes alone. */
+static const struct token CLOSE[] = {
+    {LABEL, 0, "a", 1}, {LABEL, 0, "b", 1}, {LABEL, 0, "A", 1}, {LABEL, 0, "aa", 2}, {LABEL, 0, "ab", 2},
+    {LABEL, 0, "ba", 2}, {LABEL, 0, "\0a", 2}, {LABEL, 0, "a\0", 2}, {LABEL, 0, "step1", 5}, {LABEL, 0, "step2", 5},
+    {LABEL, 0, "step10", 6}, {LABEL, 0, "step", 4}, {LABEL, 0, "step\0", 5}, {LABEL, 0, "\0\0\0\0step", 8}};
+enum { CLOSE_NAMES = sizeof CLOSE / sizeof *CLOSE };
 static const char *const STRINGS[] = {"\"s\"", "", "\"f(uint256)\"", "\"calldata\""};
 static const char *const TYPES[] = {"address", "bool", "uint", "uint256", "int128", "bytes32", "", "uint7", "foo"};
 static const char *const BAD_LITERALS[] = {"", "0", "0x", "x1", "0X1", "1x1", "0xg", "0x1g", "0x1/", "0x1:", "0x@1",
@@ -269,7 +275,7 @@ static void put_push(struct maker *m, bool in_label)
 {
     uint32_t byte = push_byte(m);
     put_opcode(m, byte);
-    if (!in_label)
+    if (!in_label || m->sound)
         put_literal(m, byte - 0x5f);
     else if (likely(&m->chance, 60))
         put_literal(m, 32);
@@ -314,19 +320,50 @@ static void put_items(struct maker *m, bool in_label, bool plain, uint32_t most)
     }
 }
 
+/* Of large cases all bodies are sound: else mode 1 would end the reading early. */
+static bool is_sound(struct maker *m)
+{
+    return m->slip == 0 || likely(&m->chance, 50);
+}
+
+/* So many labels with their items. In a sound body every name is another: they are taken from CLOSE in turn. */
+static void put_groups(struct maker *m, uint32_t count, bool plain, uint32_t most)
+{
+    uint32_t first = below(&m->chance, CLOSE_NAMES), names = 1 + below(&m->chance, 6);
+    for (uint32_t i = 0; i < count; i++) {
+        uint32_t name = m->sound ? i : below(&m->chance, names);
+        struct token t = CLOSE[(first + name) % CLOSE_NAMES];
+        if (!m->sound && likely(&m->chance, 30))
+            put_kind(m, LABEL);
+        else
+            put_token(m, LABEL, t.own, t.length, 0);
+        put(m, COLON);
+        put_items(m, true, plain, most);
+    }
+}
+
 static void put_body(struct maker *m)
 {
     static const uint8_t SIZES[] = {0, 1, 2, 3, 4, 6, 12};
     static const uint8_t GROUPS[] = {0, 0, 1, 1, 2, 3};
     bool plain = likely(&m->chance, 30);
     uint32_t most = ONE_OF(m, SIZES);
+    m->sound = is_sound(m);
     put(m, OPEN_BRACE);
     put_items(m, false, plain, most);
-    for (uint32_t n = ONE_OF(m, GROUPS); n > 0; n--) {
-        put_kind(m, LABEL);
-        put(m, COLON);
-        put_items(m, true, plain, most);
-    }
+    put_groups(m, ONE_OF(m, GROUPS), plain, most);
+    put(m, CLOSE_BRACE);
+}
+
+/* A body of labels, more of them than others have and little in each: what mode 1 looks at. */
+static void put_labelled_body(struct maker *m)
+{
+    static const uint8_t GROUPS[] = {1, 2, 2, 3, 4, 6, 12};
+    m->sound = is_sound(m);
+    put(m, OPEN_BRACE);
+    put_groups(m, ONE_OF(m, GROUPS), true, 2);
+    if (likely(&m->chance, 10))
+        put_opcode(m, push_byte(m));
     put(m, CLOSE_BRACE);
 }
 
@@ -342,7 +379,7 @@ static void put_number_of(struct maker *m, uint32_t word)
     put(m, CLOSE_PAREN);
 }
 
-static void put_macro(struct maker *m, uint32_t kind, bool fresh)
+static void put_macro_head(struct maker *m, uint32_t kind, bool fresh)
 {
     put(m, DEFINE);
     put(m, kind);
@@ -354,6 +391,11 @@ static void put_macro(struct maker *m, uint32_t kind, bool fresh)
     put(m, ASSIGN);
     put_number_of(m, TAKES);
     put_number_of(m, RETURNS);
+}
+
+static void put_macro(struct maker *m, uint32_t kind, bool fresh)
+{
+    put_macro_head(m, kind, fresh);
     put_body(m);
 }
 
@@ -729,7 +771,7 @@ static void pushes(struct maker *m)
     m->family = "pushes";
     m->body = true;
     put(m, OPEN_BRACE);
-    if (likely(&m->chance, 15)) {
+    if (likely(&m->chance, 40)) {
         put_kind(m, LABEL);
         put(m, COLON);
     }
@@ -754,6 +796,21 @@ static void repeated_names(struct maker *m)
         put(m, POUND);
     if (likely(&m->chance, 30))
         put_definition(m);
+    lay_out_small(m);
+}
+
+/* For mode 1: labels whose names stand again, or nearly, in one body or in the next; pushes with and without literals. */
+static void labels(struct maker *m)
+{
+    m->family = "labels";
+    m->body = likely(&m->chance, 60);
+    for (uint32_t n = m->body ? 1 : 1 + below(&m->chance, 3); n > 0; n--) {
+        if (!m->body)
+            put_macro_head(m, MACRO + below(&m->chance, 3), likely(&m->chance, 80));
+        put_labelled_body(m);
+    }
+    if (likely(&m->chance, 30))
+        mutate(m);
     lay_out_small(m);
 }
 
@@ -818,8 +875,22 @@ static void put_call_of(struct maker *m, uint32_t first, size_t arguments, uint3
     put(m, CLOSE_BRACE);
 }
 
-/* All earlier names are asked for each macro: fewer than would fit, or a checked run takes too long. */
-static void put_macros(struct maker *m, size_t times)
+/* A body of so many labels of two tokens, every name another; the last one may be that of the label in the middle. */
+static void put_labels(struct maker *m, size_t count, bool again)
+{
+    put(m, OPEN_BRACE);
+    for (size_t i = 0; i < count; i++) {
+        char *own = pooled(m, 8);
+        int length = snprintf(own, 8, "l%zu", again && i + 1 == count ? i / 2 : i);
+        put_token(m, LABEL, own, (size_t)length, 0);
+        put(m, COLON);
+    }
+    put(m, CLOSE_BRACE);
+}
+
+/* Macros of so many labels, the same in each. All earlier names are asked for each macro: fewer than would fit, or a
+ * checked run takes too long. */
+static void put_macros(struct maker *m, size_t times, size_t count)
 {
     while (times-- > 0) {
         put(m, DEFINE);
@@ -828,8 +899,21 @@ static void put_macros(struct maker *m, size_t times)
         put(m, OPEN_PAREN);
         put(m, CLOSE_PAREN);
         put(m, ASSIGN);
-        put_braced(m, 0, OPCODE);
+        put_labels(m, count, false);
     }
+}
+
+/* One label of so many pushes, each with its literal. */
+static void put_label_pushes(struct maker *m, size_t times)
+{
+    put(m, OPEN_BRACE);
+    put_kind(m, LABEL);
+    put(m, COLON);
+    while (times-- > 0) {
+        put_opcode(m, 0x60);
+        put_own(m, LITERAL, "0xff");
+    }
+    put(m, CLOSE_BRACE);
 }
 
 static void put_big_table(struct maker *m, uint32_t kind, size_t entries)
@@ -871,7 +955,7 @@ static void large(struct maker *m, uint64_t shape)
     m->family = "large";
     m->slip = 0;
     m->body = true;
-    switch (shape % 19) {
+    switch (shape % 23) {
     case 0: put_braced(m, 0, OPCODE); text = MOST_TEXT; break;
     case 1: put_braced(m, 0, OPCODE); text = MOST_TEXT + 1; break;
     case 2: put_long_ident(m, MOST_TEXT - 2); break;
@@ -882,7 +966,7 @@ static void large(struct maker *m, uint64_t shape)
     case 7: put_call_of(m, IDENT, MOST_TOKENS - 6, CALLDATA); break;
     case 8: put_pairs(m, 32767, INCLUDE, STR); m->body = false; break;
     case 9: put_pairs(m, 32768, INCLUDE, STR); m->body = false; break;
-    case 10: put_macros(m, 1200); m->body = false; break;
+    case 10: put_macros(m, 1200, 0); m->body = false; break;
     case 11: put_big_table(m, CODE_TABLE, MOST_TOKENS - 6); m->body = false; break;
     case 12: put_big_table(m, JUMP_TABLE, MOST_TOKENS - 6); m->body = false; text = MOST_TEXT; break;
     case 13: put(m, OPEN_BRACE); put_pairs(m, 32766, LABEL, COLON); put(m, CLOSE_BRACE); break;
@@ -890,6 +974,10 @@ static void large(struct maker *m, uint64_t shape)
     case 15: put_random_file(m); m->body = false; break;
     case 16: put_call_of(m, BUILTIN, MOST_TOKENS - 6, STR); break;
     case 17: put_times(m, MOST_TOKENS - 1, COMMENT); m->body = false; break;
+    case 18: put_labels(m, 32766, false); break;
+    case 19: put_labels(m, 32766, true); break;
+    case 20: put_macros(m, 1000, 4); m->body = false; break;
+    case 21: put_label_pushes(m, 32765); break;
     default: put_times(m, MOST_TOKENS, WHITESPACE); m->body = false; break;
     }
     lay_out(m, "");
@@ -904,20 +992,30 @@ static void small(struct maker *m)
         random_words(m);
     else if (roll < 18)
         random_kinds(m);
-    else if (roll < 36)
+    else if (roll < 34)
         bodies(m);
-    else if (roll < 56)
+    else if (roll < 51)
         files(m);
-    else if (roll < 72)
+    else if (roll < 66)
         mutated_tokens(m);
-    else if (roll < 85)
+    else if (roll < 78)
         mutated_words(m);
-    else if (roll < 89)
+    else if (roll < 82)
         pushes(m);
-    else if (roll < 94)
+    else if (roll < 87)
         repeated_names(m);
+    else if (roll < 95)
+        labels(m);
     else
         starts(m);
+}
+
+/* Mostly one of the two modes there are. */
+static uint32_t any_mode(struct maker *m)
+{
+    static const uint32_t OTHER[] = {2, 3, 255, 256, 257, 65536, 65537, 2147483648u, 2147483649u, 4294967295u};
+    uint32_t roll = below(&m->chance, 100);
+    return roll < 55 ? STRICT_MODE : roll < 96 ? PLAIN_MODE : ONE_OF(m, OTHER);
 }
 
 void make_case(struct maker *m, uint64_t seed, uint64_t number)
@@ -929,6 +1027,8 @@ void make_case(struct maker *m, uint64_t seed, uint64_t number)
     m->body = false;
     m->start = 0;
     m->slip = 2;
+    m->sound = false;
+    m->mode = any_mode(m);
     if (number % LARGE_EVERY == LARGE_AT)
         large(m, number / LARGE_EVERY + 9 * seed);
     else

@@ -1,4 +1,4 @@
-/* Makes cases: a text, a word list, the entry to be called and its start. */
+/* Makes cases: a text, a word list, the entry to be called, its mode and its start. */
 #ifndef MAKER_H
 #define MAKER_H
 
@@ -19,9 +19,11 @@ struct maker {
     size_t used;
     unsigned serial;
     uint32_t slip; /* how many tested names of a hundred are reserved ones */
+    bool sound; /* the labels of the body at hand have names of their own, and their pushes literals that fit */
     /* The case. */
     const char *family;
     bool body;
+    uint32_t mode;
     uint64_t start;
     uint8_t *text;
     size_t text_len;

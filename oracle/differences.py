@@ -5,7 +5,8 @@ what oracle/rules.py answers: a program that is wrong about the rules isn't excu
 that happens to lie in the same case. Where the Rust only passes over a rule and reads on (a repeated
 name that it misses, digits of other scripts), the rules are read again without that rule, and the
 Rust has to give that answer in full. Where it stops for a reason that has no number, or reads what
-the port leaves out, the reason has to be in the input, before the place where the rules stop.
+the port leaves out, the reason has to be in the input, before the place where the rules stop. In mode 1,
+which the Rust doesn't know, it isn't run.
 """
 import re
 import unicodedata
@@ -23,7 +24,7 @@ class Look:
 
     def __init__(self, case, by_rules, by_rust):
         self.case = rules.read_case(case.encode())
-        self.text, self.words = self.case[3:]
+        self.mode, self.text, self.words = self.case[1], *self.case[4:]
         self.tokens = [self.words[i:i + 4] for i in range(0, len(self.words) - 3, 4)]
         self.kept = [t for t in self.tokens if t[0] not in (rules.WHITESPACE, rules.COMMENT)]
         self.see(by_rules)
@@ -131,6 +132,11 @@ def cannot_hold(look):
                for t in look.tokens if t[0] in HOLDS_TEXT)
 
 
+def knows_no_mode(look):
+    """Strict reading, behind the driver's door: the Rust has no such thing."""
+    return look.rust == "X_Strict" and look.mode == rules.STRICT and look.number not in (30, 31, 35)
+
+
 def no_end(look):
     """No Eof at the list's end: the Rust runs off it. Only where its door is left out."""
     return look.number == 30 and look.rust == "PANIC" and (not look.kept or look.tokens[-1][0] != 0)
@@ -164,6 +170,8 @@ def explain(case, by_rules, by_rust, unformed=False):
         return None
     if unformed:
         return "no-end" if no_end(look) else None
+    if knows_no_mode(look):
+        return "strict"
     if cannot_hold(look):
         return "cannot-hold"
     used = []

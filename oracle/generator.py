@@ -7,13 +7,19 @@ Families:
   exhaustive  all short lists over reduced alphabets, in many surroundings, shortest first; seed s and
               count n are the cases from s * n on, so that seeds 0, 1, 2 .. walk through them
   pushes      every push size with every literal size, leading zeros too
+  labels      what strict reading asks: labels whose names stand again or nearly, and pushes with and without fitting
+              literals, everywhere in a label; refused before and behind that
   illformed   lists that are not well formed, in every way of document 01, and near misses
   tables      tables exactly full, a word or a record short, ragged, empty; the kept list one short
   starts      bodies read from anywhere
   odd         what docs/DIFFERENCES.md lists: repeated names, Pound, odd types, other digits, bytes that
               are not UTF-8
   limits      the largest texts and lists, and one more (few cases, long lines)
+
+Modes: `0`, the only one that the Rust knows; `1`; or `mixed`, mostly 1, and now and then one that there is none. The
+lists and what is lent are the same in all of them, but that limits has every list in mode 1 and in mode 0 if mixed.
 """
+import itertools
 import random
 
 import notation
@@ -32,14 +38,40 @@ TYPES = ["address", "bool", "string", "bytes", "uint", "int", "uint256", "uint8"
 STRINGS = ['"s"', '""', '"f(uint256)"', '"calldata"']
 OPCODES = [0x00, 0x01, 0x15, 0x35, 0x52, 0x54, 0x56, 0x57, 0x5b, 0x5f, 0x80, 0x90, 0xa0, 0xf3, 0xfd, 0xff, 0x0c, 0x5e]
 FIXED = [T(w) for w in notation.FIXED if w != "EOF"]
+LABELS = [b"l", b"go", b"end", b"uint256"]
+LONG = b"the_label_of_a_very_long_way_to_the_end_of_the_refund"
+# Names of which each is close to others: in one byte, in case, as a prefix, in length alone. Zero bytes change a name
+# and, put in front or behind, leave a sum over its bytes as it was.
+CLOSE = [
+    [b"a", b"b", b"A", b"aa", b"ab", b"ba", b"aaa"],
+    [b"go", b"gp", b"fo", b"g", b"gone", b"goo", b"gO"],
+    [b"step1", b"step2", b"step10", b"step", b"step11", b"tsep1"],
+    [LONG, LONG[:-1], LONG + b"s", LONG[:-1] + b"e", b"T" + LONG[1:], LONG.replace(b"very", b"very"[::-1])],
+    [b"a", b"\0a", b"a\0", b"\0\0a", b"\0", b"\0\0"],
+    [b"abcd", b"abcd\0", b"\0\0\0\0abcd", b"abcd\0\0", b"abce", b"bbcd", b"abcdabcd"],
+    [b"l", b"go", b"end", b"uint256", b"0x01", b"{"],
+]
+MODES = ("0", "1", "mixed")
+# Modes that there are none.
+NO_MODES = [2, 3, 16, 255, 256, 257, 65536, 65537, 2147483648, 2147483649, 4294967294, 4294967295]
 
 
 class Maker:
     """Makes token lists with one source of chance."""
 
-    def __init__(self, seed):
+    def __init__(self, seed, modes="0"):
         self.r = random.Random(seed)
         self.serial = 0
+        # Modes have a source of their own, so that the lists are the same whatever the modes.
+        self.modes = modes
+        self.of_modes = random.Random("%s, modes" % seed)
+
+    def mode(self):
+        """The mode of the next case."""
+        if self.modes != "mixed":
+            return int(self.modes)
+        roll = self.of_modes.random()
+        return 1 if roll < 0.65 else 0 if roll < 0.96 else self.of_modes.choice(NO_MODES)
 
     # Tokens.
 
@@ -89,7 +121,19 @@ class Maker:
         return self.r.choice([0x60, 0x61, 0x62, 0x63, 0x73, 0x7f, self.r.randint(0x60, 0x7f)])
 
     def label(self):
-        return rules.LABEL, self.r.choice([b"l", b"go", b"end", b"uint256"]), 0
+        return self.label_of(self.r.choice(LABELS))
+
+    def label_of(self, name):
+        return rules.LABEL, name, 0
+
+    def labels(self, count):
+        """So many labels: in two of three bodies every name another, else any."""
+        names = LABELS + self.r.choice(CLOSE)[:6]
+        if self.likely(0.67):
+            names = list(dict.fromkeys(names))
+            self.r.shuffle(names)
+            return [self.label_of(name) for name in names[:count]]
+        return [self.label_of(self.r.choice(names[:5])) for _ in range(count)]
 
     def builtin(self):
         return rules.BUILTIN, self.r.choice([b"__FUNC_SIG", b"__tablesize", b"", b"f"]), 0
@@ -164,7 +208,8 @@ class Maker:
 
     # Bodies.
 
-    def item(self, in_label):
+    def item(self, in_label, sound=False):
+        """A push in a label has any literal or none, or, in a sound body, one that fits."""
         roll = self.r.random()
         if roll < 0.15:
             return [self.literal()]
@@ -172,7 +217,7 @@ class Maker:
             return [self.opcode()]
         if roll < 0.5:
             byte = self.push()
-            if in_label:
+            if in_label and not sound:
                 return [self.opcode(byte)] + ([self.literal()] if self.likely(0.6) else [])
             return [self.opcode(byte), self.literal(byte - 0x5f)]
         if roll < 0.65:
@@ -190,10 +235,11 @@ class Maker:
         out = [T("{")]
         for _ in range(self.r.randint(0, most)):
             out += self.item(in_label=False)
-        for _ in range(self.r.choice([0, 0, 1, 1, 2, 3])):
-            out += [self.label(), T(":")]
+        sound = self.likely(0.5)
+        for label in self.labels(self.r.choice([0, 0, 1, 1, 2, 3])):
+            out += [label, T(":")]
             for _ in range(self.r.randint(0, most)):
-                out += self.item(in_label=True)
+                out += self.item(in_label=True, sound=sound)
         return out + [T("}")]
 
     def plain_body(self):
@@ -201,8 +247,8 @@ class Maker:
         out = [T("{")]
         for _ in range(self.r.randint(0, 5)):
             out += self.plain_item(False)
-        for _ in range(self.r.choice([0, 0, 1, 2])):
-            out += [self.label(), T(":")]
+        for label in self.labels(self.r.choice([0, 0, 1, 2])):
+            out += [label, T(":")]
             for _ in range(self.r.randint(0, 4)):
                 out += self.plain_item(True)
         return out + [T("}")]
@@ -213,6 +259,71 @@ class Maker:
             return self.some([self.opcode(byte)], [self.opcode(byte), self.literal()])
         return self.some([self.literal()], [self.opcode()], [self.ident()],
                          [self.opcode(byte), self.literal(byte - 0x5f)])
+
+    # Bodies for strict reading.
+
+    def label_push(self):
+        """A push for a label: with a literal that just fits, mostly, or just doesn't, or with none."""
+        byte = self.r.choice([0x5f, 0x60, 0x61, 0x7e, 0x7f, 0x80, self.push()])
+        n = min(max(byte - 0x5f, 0), 32)
+        roll = self.r.random()
+        if roll < 0.8:
+            return [self.opcode(byte), self.literal_of(max(2 * n - self.r.randint(0, 1), 0))]
+        if roll < 0.9:
+            return [self.opcode(byte), self.literal_of(min(2 * n + 1, 64))]
+        return [self.opcode(byte)]
+
+    def label_item(self, name):
+        """An item of a label of this name; a call of it is no second label."""
+        roll = self.r.random()
+        if roll < 0.5:
+            return self.label_push()
+        if roll < 0.6:
+            return [(rules.IDENT, name, 0)]
+        return self.item(in_label=True, sound=True)
+
+    def labelled_body(self, names):
+        """Labels with names of these, none twice or any."""
+        count = self.r.choice([1, 2, 2, 3, 3, 4, 5])
+        if self.likely(0.5):
+            chosen = self.r.sample(names, min(count, len(names)))
+        else:
+            chosen = [self.r.choice(names[:self.r.randint(1, len(names))]) for _ in range(count)]
+        out = [T("{")]
+        if self.likely(0.3):
+            out += self.item(in_label=False)
+        for name in chosen:
+            out += [self.label_of(name), T(":")]
+            for _ in range(self.r.choice([0, 0, 1, 1, 2, 3])):
+                out += self.label_item(name)
+            if self.likely(0.05):
+                out.append(self.opcode(self.push()))
+        return out + [T("}")]
+
+    def many_labels(self, count):
+        """So many labels, of which the last may have the name of another: room for names comes in sizes."""
+        names = [b"l%d" % i for i in range(count)]
+        if self.likely(0.5):
+            names[-1] = names[self.some(0, count // 2, count - 2, self.r.randrange(count))]
+        out = [T("{")]
+        for name in names:
+            out += [self.label_of(name), T(":")]
+        return out + [T("}")]
+
+    def spoil_body(self, tokens):
+        """One thing more that is wrong, before or behind what strict reading refuses: a Colon is gone, the list ends
+        early, a token stands there that begins no item, a brace is gone."""
+        i = self.r.randrange(len(tokens))
+        way = self.r.choice(["colon", "colon", "cut", "cut", "odd", "odd", "brace"])
+        colons = [k for k, token in enumerate(tokens) if token[0] == rules.COLON]
+        if way == "colon" and colons:
+            del tokens[self.r.choice(colons)]
+        elif way == "odd":
+            tokens.insert(i, T(self.r.choice(["#", ",", ")", "=", ":", "{", "7", "calldata"])))
+        elif way == "brace":
+            tokens.pop()
+        else:
+            del tokens[i + 1:]
 
     # Files.
 
@@ -259,7 +370,7 @@ class Maker:
         return out
 
     def base(self):
-        """A list that follows the grammar, without Eof: (mode, start, tokens)."""
+        """A list that follows the grammar, without Eof: (entry, start, tokens)."""
         if self.likely(0.5):
             return "F", 0, self.file()
         before = [self.any_token() for _ in range(self.r.randint(0, 4))] if self.likely(0.3) else []
@@ -287,32 +398,37 @@ class Maker:
             tokens = tokens + [EOF]
         return notation.lay_out(tokens, self.some(b" ", b"", b" ", b"\n  "))
 
-    def roomy(self, mode, start, text, words):
+    def roomy(self, entry, start, text, words):
         """Lengths with room for all, mostly not much more."""
-        return self.lengths(mode, start, text, words,
+        return self.lengths(entry, start, text, words,
                             lambda width, need: need * width + self.some(0, 0, 1, width - 1, width, 3 * width))
 
-    def lengths(self, mode, start, text, words, choose):
+    def lengths(self, entry, start, text, words, choose):
+        """By the reading in mode 0: what mode 1 accepts has the same records."""
         kept = needs = None
         if rules.first_bad(text, words) is None:
             kept = rules.kept_numbers(words)
-            if mode == "F" or start < len(kept):
+            if entry == "F" or start < len(kept):
                 try:
-                    read = rules.read(mode, start, text, words, kept)
+                    read = rules.read(entry, rules.PLAIN, start, text, words, kept)
                     needs = len(read.definitions), len(read.statements), len(read.arguments)
                 except rules.Refused:
                     pass
         if needs is None:
             needs = self.r.randint(0, 2), self.r.randint(0, 3), self.r.randint(0, 3)
         room = [choose(width, need) for width, need in zip((12, 8, 7), needs)]
-        if mode == "B":
+        if entry == "B":
             room[0] = 0
         count = len(words) // 4 if kept is None else len(kept)
         return [count + self.some(0, 0, 0, 1, 4)] + room
 
-    def line(self, mode, start, tokens, spaced=True):
+    def case(self, entry, start, room, text, words):
+        """The case's line, in a mode of those that are asked for."""
+        return notation.case_line(entry, self.mode(), start, room, text, words)
+
+    def line(self, entry, start, tokens, spaced=True):
         text, words = self.laid_out(tokens, spaced)
-        return notation.case_line(mode, start, self.roomy(mode, start, text, words), text, words)
+        return self.case(entry, start, self.roomy(entry, start, text, words), text, words)
 
 
 def bodies(m, seed, count):
@@ -332,10 +448,10 @@ def files(m, seed, count):
 
 def mutations(m, seed, count):
     for _ in range(count):
-        mode, start, tokens = m.base()
+        entry, start, tokens = m.base()
         for _ in range(m.r.choice([1, 1, 1, 2, 3])):
             mutate(m, tokens)
-        yield m.line(mode, min(start, len(tokens)), tokens)
+        yield m.line(entry, min(start, len(tokens)), tokens)
 
 
 def mutate(m, tokens):
@@ -359,7 +475,7 @@ def mutate(m, tokens):
         del tokens[i + 1:]
 
 
-# All short lists. A surrounding: mode, what stands before, what may stand behind, the alphabet.
+# All short lists. A surrounding: entry, what stands before, what may stand behind, the alphabet.
 BODY = '{ } ( ) [ ] < > , : a uint256 ~l 0x01 0x0100 ADD PUSH1 @f "s" calldata %bool = # 7'
 LIST = ', a uint256 0x01 calldata memory storage "s" %bool ) ( < > indexed } ~l'
 TYPED = '%bool %uint256 a uint256 indexed calldata storage , ) ( 0x01 "s" = '
@@ -367,6 +483,7 @@ SURROUNDINGS = [
     ("B", "", "", BODY),
     ("B", "{", "}", BODY),
     ("B", "{ ~l :", "}", BODY),
+    ("B", "{ ~l : PUSH1", "~l : }", BODY),
     ("B", "{ PUSH1", "}", BODY),
     ("B", "{ F (", ") }", LIST),
     ("B", "{ ~l : F (", ") }", LIST),
@@ -393,22 +510,22 @@ SURROUNDINGS = [
 
 def exhaustive(m, seed, count):
     blocks = []
-    for mode, before, behind, alphabet in SURROUNDINGS:
+    for entry, before, behind, alphabet in SURROUNDINGS:
         letters = [T(w) for w in alphabet.split()]
         first = [T(w) for w in before.split()]
-        blocks.append((mode, first, [], letters))
+        blocks.append((entry, first, [], letters))
         if behind:
-            blocks.append((mode, first, [T(w) for w in behind.split()], letters))
+            blocks.append((entry, first, [T(w) for w in behind.split()], letters))
     at, left, length = seed * count, count, 0
     while left > 0:
-        for mode, first, last, letters in blocks:
+        for entry, first, last, letters in blocks:
             size = len(letters) ** length
             while at < size and left > 0:
                 middle, index = [], at
                 for _ in range(length):
                     index, letter = divmod(index, len(letters))
                     middle.append(letters[letter])
-                yield m.line(mode, 0, first + middle + last, spaced=False)
+                yield m.line(entry, 0, first + middle + last, spaced=False)
                 at += 1
                 left -= 1
             at -= size
@@ -427,6 +544,33 @@ def pushes(m, seed, count):
         yield m.line("B", 0, [T("{")] + tokens + [T("}")], spaced=False)
 
 
+def labels(m, seed, count):
+    for _ in range(count):
+        names = m.r.choice(CLOSE)
+        roll = m.r.random()
+        if roll < 0.02:
+            # Some dozens, around the first size of room, and now and then some more than the second one.
+            yield m.line("B", 0, m.many_labels(m.some(31, 32, 33, 60) if m.likely(0.9) else m.some(1023, 1024, 1025)))
+            continue
+        if roll < 0.65:
+            entry, tokens = "B", m.labelled_body(names)
+        else:
+            entry, tokens = "F", labelled_file(m, names)
+        if m.likely(0.35) and tokens:
+            m.spoil_body(tokens)
+        yield m.line(entry, 0, tokens)
+
+
+def labelled_file(m, names):
+    """Macros, fns and tests whose labels share their names, now and then two of one name."""
+    out = []
+    for _ in range(m.r.choice([1, 2, 2, 3])):
+        name = (rules.IDENT, m.r.choice(names), 0) if m.likely(0.3) else m.fresh()
+        out += [T("#define"), T(m.r.choice(["macro", "fn", "test"])), name]
+        out += [OPEN_PAREN, CLOSE_PAREN, T("=")] + m.labelled_body(names)
+    return out
+
+
 BAD_LITERALS = [b"", b"0", b"0x", b"x1", b"0X1", b"1x1", b"0xg", b"0x1g", b"0xG1", b"0x1/", b"0x1:", b"0x@1",
                 b"0x`1", b"0x1 ", b"0x" + b"1" * 65, b"0x" + b"0" * 65, b"0x-1", b"0x\xff", b"00x1"]
 GOOD_LITERALS = [b"0x" + b"f" * 64, b"0x" + b"0" * 64, b"0xA", b"0x9aFf", b"0x0"]
@@ -434,7 +578,7 @@ GOOD_LITERALS = [b"0x" + b"f" * 64, b"0x" + b"0" * 64, b"0xA", b"0x9aFf", b"0x0"
 
 def illformed(m, seed, count):
     for _ in range(count):
-        mode, start, tokens = m.base()
+        entry, start, tokens = m.base()
         if m.likely(0.2):
             mutate(m, tokens)
         tokens = m.spaced(tokens + [EOF])
@@ -446,13 +590,13 @@ def illformed(m, seed, count):
             text = spoil(m, text, words)
         if m.likely(0.03):
             words = []
-        room = m.roomy(mode, start, text, words)
+        room = m.roomy(entry, start, text, words)
         if m.likely(0.3):
             room = [m.some(0, n, max(n - 1, 0), m.r.randint(0, 20)) for n in room]
-            room[1] = 0 if mode == "B" else room[1]
-        if mode == "B" and m.likely(0.2):
+            room[1] = 0 if entry == "B" else room[1]
+        if entry == "B" and m.likely(0.2):
             start = m.some(0, len(words) // 4, len(words) // 4 + 1, 4294967295)
-        yield notation.case_line(mode, start, room, text, words)
+        yield m.case(entry, start, room, text, words)
 
 
 def spoil(m, text, words):
@@ -509,7 +653,7 @@ def spoil(m, text, words):
 
 def tables(m, seed, count):
     for _ in range(count):
-        mode, start, tokens = m.base()
+        entry, start, tokens = m.base()
         if m.likely(0.1):
             mutate(m, tokens)
         start = min(start, len(tokens))
@@ -523,10 +667,10 @@ def tables(m, seed, count):
             return max(0, m.some(exact, exact - 1, exact + 1, exact - width, exact + width - 1, exact + width,
                                  m.r.randint(0, exact + width), 0, 1, width - 1))
 
-        room = m.lengths(mode, start, text, words, choose)
+        room = m.lengths(entry, start, text, words, choose)
         kept = sum(1 for k in words[0::4] if k not in (rules.WHITESPACE, rules.COMMENT))
         room[0] = m.some(kept, kept, kept, kept + 1, kept + 7, kept - 1, 0)
-        yield notation.case_line(mode, start, room, text, words)
+        yield m.case(entry, start, room, text, words)
 
 
 def starts(m, seed, count):
@@ -545,7 +689,7 @@ def starts(m, seed, count):
         room = m.roomy("B", start, text, words)
         if m.likely(0.1):
             room[0] = len(kept) - 1
-        yield notation.case_line("B", start, room, text, words)
+        yield m.case("B", start, room, text, words)
 
 
 OTHER_DIGITS = ["\u0663", "\u0967", "\uff11", "a\u0663", "\u09ea\u09ea", "\U0001d7d8"]
@@ -602,11 +746,13 @@ def limits(m, seed, count):
     """The largest and one more: 1,048,576 bytes, 65,536 tokens."""
     add, comma, space = T("ADD"), T(","), (rules.WHITESPACE, b" ", 0)
 
-    def of(mode, tokens, text=None, room=None):
+    def of(entry, tokens, text=None, room=None):
         laid, words = notation.lay_out(tokens + [EOF], b"")
         text = laid if text is None else laid + b" " * (text - len(laid))
-        room = room or m.roomy(mode, 0, text, words)
-        return notation.case_line(mode, 0, room, text, words)
+        return entry, room or m.roomy(entry, 0, text, words), text, words
+
+    def labelled(names, behind=()):
+        return [T("{")] + [w for name in names for w in (m.label_of(b"l%d" % name), T(":"))] + list(behind) + [T("}")]
 
     small = [T("{"), T("}")]
     made = [
@@ -627,22 +773,35 @@ def limits(m, seed, count):
                          [T("#define"), T("macro"), T("m%05d" % i), OPEN_PAREN, CLOSE_PAREN, T("="), T("{"), T("}")]]),
         lambda: of("F", [T("#define"), T("table"), T("T"), T("{")] + [T("abc")] * 65530 + [T("}")]),
         lambda: of("B", [T("{")] + [w for _ in range(32766) for w in (T("~l"), T(":"))] + [T("}")]),
+        # As many labels as there can be, every name another; then the last has that of the first, or of the one before.
+        lambda: of("B", labelled(range(32766))),
+        lambda: of("B", labelled(list(range(32765)) + [0])),
+        lambda: of("B", labelled(list(range(32765)) + [32764])),
+        lambda: of("B", labelled(range(32765), [T("PUSH1"), T("0x01")])),
+        lambda: of("B", labelled(range(32765), [T("PUSH1")])),
+        # The labels of a macro are forgotten in the next: as many macros of four labels as fit, the same four in each.
+        lambda: of("F", [w for i in range(4095) for w in
+                         [T("#define"), T("fn"), T("m%04d" % i), OPEN_PAREN, CLOSE_PAREN, T("=")] + labelled(range(4))]),
     ]
-    for make in made[:count]:
-        yield make()
+    modes = (1, 0) if m.modes == "mixed" else (int(m.modes),)
+    for number, (make, mode) in enumerate(itertools.product(made, modes)):
+        if number == count:
+            return
+        entry, room, text, words = make()
+        yield notation.case_line(entry, mode, 0, room, text, words)
 
 
 FAMILIES = {"bodies": bodies, "files": files, "mutations": mutations, "exhaustive": exhaustive, "pushes": pushes,
-            "illformed": illformed, "tables": tables, "starts": starts, "odd": odd, "limits": limits}
+            "labels": labels, "illformed": illformed, "tables": tables, "starts": starts, "odd": odd, "limits": limits}
 
 
-def cases(family, seed, count):
+def cases(family, seed, count, modes="0"):
     """Case lines, one after the other. `all` shares the count among the families but limits."""
     if family == "all":
         names = [name for name in FAMILIES if name != "limits"]
         for i, name in enumerate(names):
             share = count // len(names) + (1 if i < count % len(names) else 0)
-            yield from cases(name, seed, share)
+            yield from cases(name, seed, share, modes)
         return
     # A string as seed is hashed the same way everywhere.
-    yield from FAMILIES[family](Maker("%s %d" % (family, seed)), seed, count)
+    yield from FAMILIES[family](Maker("%s %d" % (family, seed), modes), seed, count)

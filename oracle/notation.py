@@ -100,8 +100,8 @@ def lay_out(list_of_tokens, between=b" "):
     return bytes(text), words
 
 
-def case_line(mode, start, lengths, text, words):
-    return " ".join([mode, str(start)] + [str(n) for n in lengths]
+def case_line(entry, mode, start, lengths, text, words):
+    return " ".join([entry, str(mode), str(start)] + [str(n) for n in lengths]
                     + [text.hex() or "-", ",".join(map(str, words)) or "-"])
 
 
@@ -142,5 +142,5 @@ def shown_case(line):
     case = rules.read_case(line.encode("latin-1"))
     if isinstance(case, str):
         return line
-    mode, start, lengths, text, words = case
-    return "%s %d lent %s | %s" % (mode, start, lengths, shown(text, words))
+    entry, mode, start, lengths, text, words = case
+    return "%s %d %d lent %s | %s" % (entry, mode, start, lengths, shown(text, words))

@@ -3,7 +3,7 @@
 
 Cases on standard input, answers on standard output, a line each, in the format of docs/CASES.md.
 Where the papers are brief it follows docs/DECISIONS.md, and it shares nothing with the Rust: it is the other
-side of the comparison. Every answer is given in full, refusals 30 to 35 and all lent contents too.
+side of the comparison. Every answer is given in full, refusals 30 to 36 and all lent contents too.
 
   rules.py < cases > answers
 """
@@ -29,8 +29,11 @@ PrimitiveType""".split()
 (UNEXPECTED_TYPE, INVALID_DEFINITION, INVALID_CONSTANT_VALUE, INVALID_PUSH, INVALID_IN_MACRO,
  INVALID_IN_LABEL, TYPE_AS_NAME, INVALID_ARGS, INVALID_SINGLE_ARG, INVALID_MACRO_ARGS,
  INVALID_TABLE_TOKEN, INVALID_CONSTANT, INVALID_ARG_CALL) = range(1, 14)
-DUPLICATE, POUND_AT_TOP = 20, 21
-NOT_WELL_FORMED, NO_SUCH_START, KEPT_SHORT = 30, 31, 35
+DUPLICATE, POUND_AT_TOP, REPEATED_LABEL = 20, 21, 22
+NOT_WELL_FORMED, NO_SUCH_START, KEPT_SHORT, NO_SUCH_MODE = 30, 31, 35, 36
+
+# The modes of a call.
+PLAIN, STRICT = 0, 1
 
 RESERVED = {b"address", b"bool", b"string", b"bytes", b"uint", b"int"}
 for m in range(1, 33):
@@ -41,7 +44,7 @@ HEX = frozenset(b"0123456789abcdefABCDEF")
 
 
 class Refused(Exception):
-    """A refusal with one of 1 to 21, and its cursor."""
+    """A refusal with one of 1 to 22, and its cursor."""
 
     def __init__(self, number, cursor):
         super().__init__(number, cursor)
@@ -103,13 +106,17 @@ def pushed_bytes(byte):
 
 
 class Reading:
-    """Reads kept tokens by document 01's grammar and keeps the records, tables without bounds."""
+    """Reads kept tokens by document 01's grammar and keeps the records, tables without bounds.
 
-    def __init__(self, kinds, texts, extras, place):
+    Strict reading (request [1]) asks two things more of labels: their value pushes have their literals, and no two
+    labels of a body have the same name."""
+
+    def __init__(self, kinds, texts, extras, place, strict=False):
         self.kinds = kinds
         self.texts = texts
         self.extras = extras
         self.place = place
+        self.strict = strict
         self.definitions = []
         self.statements = []
         self.arguments = []
@@ -143,9 +150,19 @@ class Reading:
         self.need(OPEN_BRACE)
         while self.here() not in (LABEL, CLOSE_BRACE):
             self.item(in_label=False)
+        labels = set()
         while self.here() == LABEL:
+            if self.strict:
+                self.name_once(labels)
             self.group()
         self.need(CLOSE_BRACE)
+
+    def name_once(self, labels):
+        """The Label here may not have the name of an earlier one of its body; whether a Colon follows isn't asked yet."""
+        own = self.texts[self.place]
+        if own in labels:
+            self.refuse(REPEATED_LABEL)
+        labels.add(own)
 
     def group(self):
         own = len(self.statements)
@@ -168,7 +185,7 @@ class Reading:
             self.place += 1
             self.statement(2, first, first)
             n = pushed_bytes(self.extras[first])
-            if n > 0 and not in_label:
+            if n > 0 and (self.strict or not in_label):
                 operand = self.need(LITERAL, INVALID_PUSH)
                 if significant_bytes(self.texts[operand]) > n:
                     self.refuse(INVALID_PUSH)
@@ -446,16 +463,16 @@ DEFINITIONS = {
 }
 
 
-def read(mode, start, text, words, kept, reading=Reading):
-    """The reading of a well-formed list, or Refused."""
+def read(entry, mode, start, text, words, kept, reading=Reading):
+    """The reading of a well-formed list in mode 0 or 1, or Refused."""
     kinds, texts, extras = [], [], []
     for number in kept:
         kind, first, end, extra = words[4 * number:4 * number + 4]
         kinds.append(kind)
         texts.append(text[first:end])
         extras.append(extra)
-    found = reading(kinds, texts, extras, start)
-    if mode == "B":
+    found = reading(kinds, texts, extras, start, mode == STRICT)
+    if entry == "B":
         found.body()
     else:
         found.file()
@@ -465,44 +482,46 @@ def read(mode, start, text, words, kept, reading=Reading):
 # Cases and answers.
 
 NUMBER = rb"([0-9]{1,10})"
-CASE = re.compile(rb"([FB]) " + rb" ".join([NUMBER] * 5)
+CASE = re.compile(rb"([FB]) " + rb" ".join([NUMBER] * 6)
                   + rb" (-|(?:[0-9a-fA-F]{2})+) (-|[0-9]{1,10}(?:,[0-9]{1,10})*)")
 
 
 def read_case(line):
-    """(mode, start, four lengths, text, words) of a line, or the answer that says why not."""
+    """(entry, mode, start, four lengths, text, words) of a line, or the answer that says why not."""
     found = CASE.fullmatch(line)
     if found is None:
         return "X_NotACase"
-    mode = found.group(1).decode()
-    start, *lengths = [int(found.group(i)) for i in range(2, 7)]
-    text, words = found.group(7), found.group(8)
+    entry = found.group(1).decode()
+    mode, start, *lengths = [int(found.group(i)) for i in range(2, 8)]
+    text, words = found.group(8), found.group(9)
     text = b"" if text == b"-" else bytes.fromhex(text.decode())
     words = [] if words == b"-" else [int(w) for w in words.split(b",")]
-    if max([start] + lengths + words) > NONE:
+    if max([mode, start] + lengths + words) > NONE:
         return "X_NotACase"
-    if (mode == "F" and start != 0) or (mode == "B" and lengths[1] != 0):
+    if (entry == "F" and start != 0) or (entry == "B" and lengths[1] != 0):
         return "X_NotACase"
     if max(lengths + [len(text), len(words)]) > LARGEST:
         return "X_TooLarge"
-    return mode, start, lengths, text, words
+    return entry, mode, start, lengths, text, words
 
 
-def answer(mode, start, lengths, text, words, reading=Reading):
+def answer(entry, mode, start, lengths, text, words, reading=Reading):
     """The five numbers and the four lent lists after the call."""
     untouched = [[FILL] * n for n in lengths]
+    if mode not in (PLAIN, STRICT):
+        return (NO_SUCH_MODE, 0, 0, 0, 0), untouched
     bad = first_bad(text, words)
     if bad is not None:
         return (NOT_WELL_FORMED, bad, 0, 0, 0), untouched
     kept = kept_numbers(words)
     if lengths[0] < len(kept):
         return (KEPT_SHORT, len(kept), 0, 0, 0), untouched
-    if mode == "B" and start >= len(kept):
+    if entry == "B" and start >= len(kept):
         return (NO_SUCH_START, start, 0, 0, 0), untouched
 
     lists = [kept + [FILL] * (lengths[0] - len(kept))] + [[0] * n for n in lengths[1:]]
     try:
-        found = read(mode, start, text, words, kept, reading)
+        found = read(entry, mode, start, text, words, kept, reading)
     except Refused as no:
         return (no.number, no.cursor, 0, 0, 0), lists
     tables = [(32, 12, found.definitions), (33, 8, found.statements), (34, 7, found.arguments)]
@@ -513,7 +532,7 @@ def answer(mode, start, lengths, text, words, reading=Reading):
         flat = [word for record in records for word in record]
         lists[i][:len(flat)] = flat
     counts = [len(records) for _, _, records in tables]
-    if mode == "B":
+    if entry == "B":
         return (0, found.place, counts[1], counts[2], found.plain_length()), lists
     return (0, found.place, *counts), lists
 

@@ -2,9 +2,10 @@
 //!
 //!     bench            ratios at 60,000 tokens, then growth from 1,000 to 64,000
 //!     bench --names    the test for repeated names alone: microseconds a file, by the number of macros
+//!     bench --strict   mode 1 against mode 0 on the same lists, and how it grows with the labels
 //!     bench --quick    short lists and few rounds: whether all of it runs, not figures
 //!
-//! What is timed: on one side a call of `simmerotter_read_file`, for a body of `simmerotter_read_body`, with tables of exactly the need, which it zeroes itself; on the other `Parser::new(list, None)` and
+//! What is timed: on one side a call of `simmerotter_read_file`, for a body of `simmerotter_read_body`, with tables of exactly the need, which it zeroes itself, in mode 0; on the other `Parser::new(list, None)` and
 //! `parse()` or `parse_body()`, whose list was cloned before, once without and once with the freeing of the list and of what was read: the library has nothing to free. Beside them a call
 //! that makes its own room (`Room`), and a bare pass that adds up the token list's words.
 
@@ -16,9 +17,13 @@ mod tokens;
 
 use huff_parser::Parser;
 use huff_utils::token::Token;
-use shapes::{List, SHAPES};
+use shapes::{List, Shape, LABELLED, SHAPES};
 use simmerotter::{raw, Room, NONE};
 use timing::{black_box, sample, spread, Spread};
+
+/// The modes of a call: 0 reads as the Rust does, 1 strictly.
+const PLAIN: u32 = 0;
+const STRICT: u32 = 1;
 
 /// The lent tables, each exactly as long as a list needs.
 struct Tables {
@@ -33,7 +38,7 @@ impl Tables {
     fn exact(list: &List) -> Tables {
         let n = list.tokens();
         let mut large = Tables { kept: vec![0; n], definitions: vec![0; 12 * n], statements: vec![0; 8 * n], arguments: vec![0; 7 * n] };
-        let answer = large.read(list);
+        let answer = large.read(PLAIN, list);
         let [number, cursor, ..] = answer;
         assert_eq!(number, 0, "the list is refused at {cursor}");
         assert!(!list.is_body || answer[4] != u64::from(NONE), "the body has no plain length");
@@ -46,11 +51,11 @@ impl Tables {
         }
     }
 
-    fn read(&mut self, list: &List) -> [u64; 5] {
+    fn read(&mut self, mode: u32, list: &List) -> [u64; 5] {
         if list.is_body {
-            return raw::read_body(&list.text, &list.words, 0, &mut self.kept, &mut self.statements, &mut self.arguments);
+            return raw::read_body(mode, &list.text, &list.words, 0, &mut self.kept, &mut self.statements, &mut self.arguments);
         }
-        raw::read_file(&list.text, &list.words, &mut self.kept, &mut self.definitions, &mut self.statements, &mut self.arguments)
+        raw::read_file(mode, &list.text, &list.words, &mut self.kept, &mut self.definitions, &mut self.statements, &mut self.arguments)
     }
 
     /// Bytes of all that a call reads or writes.
@@ -116,7 +121,7 @@ fn measure(list: &List, round: usize, rounds: usize) -> Times {
     let (mut pass, mut ratio, mut freed_ratio) = (vec![], vec![], vec![]);
     for _ in 0..rounds {
         let a = sample(turns, || {
-            black_box(tables.read(black_box(list)));
+            black_box(tables.read(PLAIN, black_box(list)));
         });
         let b = sample(turns, || {
             let (text, words) = (black_box(&list.text), black_box(&list.words));
@@ -152,6 +157,11 @@ fn each(times: &Times, time: f64) -> f64 {
     time / times.tokens as f64
 }
 
+/// Least, middle and greatest.
+fn show(s: Spread) -> String {
+    format!("{:.1} {:.1} {:.1}", s.least, s.middle, s.greatest)
+}
+
 fn ratios(pace: &Pace) {
     println!("{} tokens, {} rounds; least, middle and greatest; nanoseconds a token", pace.tokens, pace.rounds);
     println!();
@@ -159,27 +169,76 @@ fn ratios(pace: &Pace) {
     println!("|---|---|---|---|---|---|---|---|---|");
     for (name, make) in SHAPES {
         let times = measure(&make(pace.tokens), pace.round, pace.rounds);
-        let show = |s: Spread| format!("{:.1} {:.1} {:.1}", s.least, s.middle, s.greatest);
         let each = |s: Spread| show(Spread { least: each(&times, s.least), middle: each(&times, s.middle), greatest: each(&times, s.greatest) });
         let cells = [show(times.ratio), show(times.freed_ratio), each(times.library), each(times.room), each(times.rust), each(times.freed), each(times.pass)];
         println!("| {name} | {} | {:.1} |", cells.join(" | "), times.bytes as f64 / times.tokens as f64);
     }
 }
 
-fn growth(pace: &Pace) {
+/// A table of shapes by sizes; `cell` says what stands there for a list.
+fn grown(pace: &Pace, shapes: &[Shape], cell: &dyn Fn(&List) -> String) {
     let columns = |cell: &dyn Fn(usize) -> String| pace.sizes.iter().map(|&n| cell(n)).collect::<Vec<_>>().join(" | ");
-    println!();
-    println!("Growth: nanoseconds a token, middle of {} rounds, library / Rust", pace.growth_rounds);
     println!();
     println!("| Shape | {} |", columns(&|n| n.to_string()));
     println!("|---|{}", "---|".repeat(pace.sizes.len()));
-    for (name, make) in SHAPES {
-        let cells = columns(&|n| {
-            let times = measure(&make(n), pace.round, pace.growth_rounds);
-            format!("{:.1} / {:.0}", each(&times, times.library.middle), each(&times, times.rust.middle))
-        });
-        println!("| {name} | {cells} |");
+    for (name, make) in shapes {
+        println!("| {name} | {} |", columns(&|n| cell(&make(n))));
     }
+}
+
+fn growth(pace: &Pace) {
+    println!();
+    println!("Growth: nanoseconds a token, middle of {} rounds, library / Rust", pace.growth_rounds);
+    grown(pace, &SHAPES, &|list| {
+        let times = measure(list, pace.round, pace.growth_rounds);
+        format!("{:.1} / {:.0}", each(&times, times.library.middle), each(&times, times.rust.middle))
+    });
+}
+
+/// Nanoseconds a token in mode 0 and in mode 1, and the second by the first.
+struct Modes {
+    plain: Spread,
+    strict: Spread,
+    ratio: Spread,
+}
+
+/// A sample of each mode a round, over the same tables.
+fn measure_modes(list: &List, round: usize, rounds: usize) -> Modes {
+    let mut tables = Tables::exact(list);
+    assert_eq!(tables.read(STRICT, list), tables.read(PLAIN, list), "mode 1 reads the list otherwise");
+    let turns = (round / list.tokens()).max(2);
+    let tokens = list.tokens() as f64;
+    let (mut plain, mut strict, mut ratio) = (vec![], vec![], vec![]);
+    for _ in 0..rounds {
+        let [a, b] = [PLAIN, STRICT].map(|mode| {
+            sample(turns, || {
+                black_box(tables.read(black_box(mode), black_box(list)));
+            })
+        });
+        plain.push(a / tokens);
+        strict.push(b / tokens);
+        ratio.push(b / a);
+    }
+    Modes { plain: spread(plain), strict: spread(strict), ratio: spread(ratio) }
+}
+
+/// Mode 1 against mode 0 on all shapes, then growth where labels are most of a list.
+fn strict(pace: &Pace) {
+    println!("Strict reading: {} tokens, {} rounds; least, middle and greatest; nanoseconds a token", pace.tokens, pace.rounds);
+    println!();
+    println!("| Shape | Mode 1 / mode 0 | Mode 0 | Mode 1 |");
+    println!("|---|---|---|---|");
+    for (name, make) in SHAPES {
+        let modes = measure_modes(&make(pace.tokens), pace.round, pace.rounds);
+        let Spread { least, middle, greatest } = modes.ratio;
+        println!("| {name} | {least:.2} {middle:.2} {greatest:.2} | {} | {} |", show(modes.plain), show(modes.strict));
+    }
+    println!();
+    println!("Growth: nanoseconds a token, middle of {} rounds, mode 0 / mode 1", pace.growth_rounds);
+    grown(pace, &LABELLED, &|list| {
+        let modes = measure_modes(list, pace.round, pace.growth_rounds);
+        format!("{:.1} / {:.1}", modes.plain.middle, modes.strict.middle)
+    });
 }
 
 const COUNTS: [usize; 8] = [1, 10, 100, 500, 1_000, 2_000, 4_000, 8_000];
@@ -195,7 +254,7 @@ fn names(rounds: usize) {
             let list = shapes::names(count, front);
             let mut tables = Tables::exact(&list);
             let turns = (20_000 / list.tokens()).max(1);
-            let times = (0..rounds).map(|_| sample(turns, || { black_box(tables.read(black_box(&list))); })).collect();
+            let times = (0..rounds).map(|_| sample(turns, || { black_box(tables.read(PLAIN, black_box(&list))); })).collect();
             let Spread { least, middle, greatest } = spread(times);
             format!("{:.1} {:.1} {:.1}", least / 1e3, middle / 1e3, greatest / 1e3)
         });
@@ -209,6 +268,13 @@ fn main() {
     if asked("--names") {
         return names(pace.rounds);
     }
+    if asked("--strict") {
+        return strict(&pace);
+    }
     ratios(&pace);
     growth(&pace);
+    if asked("--quick") {
+        println!();
+        strict(&pace);
+    }
 }

@@ -1,4 +1,5 @@
-//! The token lists that are measured. Each shape grows to about as many tokens as asked for, and every list is one that the Rust accepts too.
+//! The token lists that are measured. Each shape grows to about as many tokens as asked for, and every list is one that the Rust accepts too, and mode 1: in a label every
+//! value push has its literal, and no two labels of a body have the same name.
 
 /// A text and its token list, four words a token.
 pub struct List {
@@ -91,6 +92,17 @@ impl List {
             self.put(kind, own, 0).put(OPEN_PAREN, "(", 0).put(NUM, &number.to_string(), number).put(CLOSE_PAREN, ")", 0);
         }
         self.put(OPEN_BRACE, "{", 0)
+    }
+
+    /// `#define macro NAME ( ) = {`, the shortest there is.
+    fn short_head(&mut self, name: &str) -> &mut List {
+        self.put(DEFINE, "#define", 0).put(MACRO, "macro", 0).name(name);
+        self.put(OPEN_PAREN, "(", 0).put(CLOSE_PAREN, ")", 0).put(ASSIGN, "=", 0).put(OPEN_BRACE, "{", 0)
+    }
+
+    /// A label with one opcode, three tokens.
+    fn labelled(&mut self, name: &str) -> &mut List {
+        self.put(LABEL, name, 0).put(COLON, ":", 0).opcode("jumpdest", 0x5b)
     }
 
     fn close(&mut self) -> &mut List {
@@ -227,12 +239,41 @@ fn code_tables(tokens: usize) -> List {
     list.eof()
 }
 
+/// A body by itself of as many labels as fit, every name another: 20,000 of them in 60,000 tokens.
+fn labels(tokens: usize) -> List {
+    let mut list = List::new(false);
+    list.is_body = true;
+    list.put(OPEN_BRACE, "{", 0);
+    let mut i = 0;
+    while list.tokens() + 5 <= tokens {
+        list.labelled(&format!("step_{i}"));
+        i += 1;
+    }
+    list.close();
+    list.eof()
+}
+
+/// Macros of four labels, the same four names in each: the names of one body say nothing of the next. A list has at most 65,536 tokens, and such a macro takes at least
+/// 16, with an opcode in each label 20: so a file can have some 3,000 of them here, never 8,000.
+fn labelled_macros(tokens: usize) -> List {
+    let mut list = List::new(false);
+    let mut i = 0;
+    while list.tokens() + 21 <= tokens {
+        list.short_head(&format!("SETTLE_{i}"));
+        for name in ["start", "refund", "failed", "end"] {
+            list.labelled(name);
+        }
+        list.close();
+        i += 1;
+    }
+    list.eof()
+}
+
 /// The shortest macros there are, so many, whose names begin alike: what is measured is mostly the test for repeated names.
 pub fn names(count: usize, front: &str) -> List {
     let mut list = List::new(false);
     for i in 0..count {
-        list.put(DEFINE, "#define", 0).put(MACRO, "macro", 0).name(&format!("{front}{i}"));
-        list.put(OPEN_PAREN, "(", 0).put(CLOSE_PAREN, ")", 0).put(ASSIGN, "=", 0).put(OPEN_BRACE, "{", 0).close();
+        list.short_head(&format!("{front}{i}")).close();
     }
     list.eof()
 }
@@ -241,7 +282,7 @@ pub fn names(count: usize, front: &str) -> List {
 pub type Shape = (&'static str, fn(usize) -> List);
 
 /// All shapes, in the order in which they are measured.
-pub const SHAPES: [Shape; 7] = [
+pub const SHAPES: [Shape; 9] = [
     ("many macros", many_macros),
     ("one long body", long_body),
     ("a body call", body_call),
@@ -249,4 +290,9 @@ pub const SHAPES: [Shape; 7] = [
     ("mixed definitions", mixed),
     ("many code tables", code_tables),
     ("half white space", half_white_space),
+    LABELLED[0],
+    LABELLED[1],
 ];
+
+/// Those whose labels are most of the work in mode 1.
+pub const LABELLED: [Shape; 2] = [("a body of labels", labels), ("macros of four labels", labelled_macros)];

@@ -1,6 +1,6 @@
 /*
- * Reads two bodies and a file, and checks every number and word that the calls leave: the examples of docs/CASES.md. Every lent
- * list has a length of its own, so that arguments in another order than the archive's would be seen.
+ * Reads bodies and a file, and checks every number and word that the calls leave: the examples of docs/CASES.md, and what the modes
+ * differ in. Every lent list has a length of its own, so that arguments in another order than the archive's would be seen.
  */
 #include <stdio.h>
 #include <string.h>
@@ -59,8 +59,8 @@ static void read_push(void)
     fill(kept, LENGTH(kept));
     fill(statements, LENGTH(statements));
     fill(arguments, LENGTH(arguments));
-    simmerotter_read_body((const uint8_t *)text, strlen(text), tokens, LENGTH(tokens), 0, kept, LENGTH(kept), statements,
-        LENGTH(statements), arguments, LENGTH(arguments), answer);
+    simmerotter_read_body(SIMMEROTTER_LENIENT, (const uint8_t *)text, strlen(text), tokens, LENGTH(tokens), 0, kept, LENGTH(kept),
+        statements, LENGTH(statements), arguments, LENGTH(arguments), answer);
     expect_answer("push", answer, wanted);
     expect_words("push, kept", kept, wanted_kept, LENGTH(kept));
     expect_words("push, statements", statements, wanted_statements, LENGTH(statements));
@@ -87,8 +87,8 @@ static void read_short(void)
     fill(statements, LENGTH(statements));
     fill(arguments, LENGTH(arguments));
     fill(untouched, LENGTH(untouched));
-    simmerotter_read_body((const uint8_t *)text, strlen(text), tokens, LENGTH(tokens), 0, kept, LENGTH(kept), statements,
-        LENGTH(statements), arguments, LENGTH(arguments), answer);
+    simmerotter_read_body(SIMMEROTTER_LENIENT, (const uint8_t *)text, strlen(text), tokens, LENGTH(tokens), 0, kept, LENGTH(kept),
+        statements, LENGTH(statements), arguments, LENGTH(arguments), answer);
     expect_answer("short", answer, wanted);
     expect_words("short, kept", kept, untouched, LENGTH(kept));
     expect_words("short, statements", statements, untouched, LENGTH(statements));
@@ -116,8 +116,8 @@ static void read_table(void)
     fill(definitions, LENGTH(definitions));
     fill(statements, LENGTH(statements));
     fill(arguments, LENGTH(arguments));
-    simmerotter_read_file((const uint8_t *)text, strlen(text), tokens, LENGTH(tokens), kept, LENGTH(kept), definitions,
-        LENGTH(definitions), statements, LENGTH(statements), arguments, LENGTH(arguments), answer);
+    simmerotter_read_file(SIMMEROTTER_LENIENT, (const uint8_t *)text, strlen(text), tokens, LENGTH(tokens), kept, LENGTH(kept),
+        definitions, LENGTH(definitions), statements, LENGTH(statements), arguments, LENGTH(arguments), answer);
     expect_answer("table", answer, wanted);
     expect_words("table, kept", kept, wanted_kept, LENGTH(kept));
     expect_words("table, definitions", definitions, wanted_definitions, LENGTH(definitions));
@@ -143,10 +143,51 @@ static void read_later_body(void)
     uint64_t answer[SIMMEROTTER_ANSWER_NUMBERS] = {99, 99, 99, 99, 99};
 
     fill(kept, LENGTH(kept));
-    simmerotter_read_body((const uint8_t *)text, strlen(text), tokens, LENGTH(tokens), 1, kept, LENGTH(kept), nothing_here, 0,
-        nothing_there, 0, answer);
+    simmerotter_read_body(SIMMEROTTER_LENIENT, (const uint8_t *)text, strlen(text), tokens, LENGTH(tokens), 1, kept, LENGTH(kept),
+        nothing_here, 0, nothing_there, 0, answer);
     expect_answer("later body", answer, wanted);
     expect_words("later body, kept", kept, wanted_kept, LENGTH(kept));
+}
+
+/* { a:a: } in a mode: no push, but a label that stands twice. */
+static void read_labels(const char *what, uint32_t mode, const uint64_t *wanted, const uint32_t *wanted_kept,
+    const uint32_t *wanted_statements)
+{
+    static const char text[] = "{ a:a: }";
+    static const uint32_t tokens[] = {
+        SIMMEROTTER_KIND_OPEN_BRACE, 0, 1, 0, SIMMEROTTER_KIND_LABEL, 2, 3, 0, SIMMEROTTER_KIND_COLON, 3, 4, 0,
+        SIMMEROTTER_KIND_LABEL, 4, 5, 0, SIMMEROTTER_KIND_COLON, 5, 6, 0, SIMMEROTTER_KIND_CLOSE_BRACE, 7, 8, 0,
+        SIMMEROTTER_KIND_EOF, 8, 8, 0,
+    };
+    uint32_t kept[7], statements[16], nothing[1];
+    uint64_t answer[SIMMEROTTER_ANSWER_NUMBERS] = {99, 99, 99, 99, 99};
+
+    fill(kept, LENGTH(kept));
+    fill(statements, LENGTH(statements));
+    simmerotter_read_body(mode, (const uint8_t *)text, strlen(text), tokens, LENGTH(tokens), 0, kept, LENGTH(kept), statements,
+        LENGTH(statements), nothing, 0, answer);
+    expect_answer(what, answer, wanted);
+    expect_words(what, kept, wanted_kept, LENGTH(kept));
+    expect_words(what, statements, wanted_statements, LENGTH(statements));
+}
+
+/* The lenient mode accepts it, the strict one refuses the later label, and a number that is no mode's changes nothing. */
+static void read_in_modes(void)
+{
+    static const uint64_t accepted[SIMMEROTTER_ANSWER_NUMBERS] = {SIMMEROTTER_ACCEPTED, 6, 2, 0, 2};
+    static const uint64_t refused[SIMMEROTTER_ANSWER_NUMBERS] = {SIMMEROTTER_DUPLICATE_LABEL, 3, 0, 0, 0};
+    static const uint64_t unknown[SIMMEROTTER_ANSWER_NUMBERS] = {SIMMEROTTER_UNKNOWN_MODE, 0, 0, 0, 0};
+    static const uint32_t kept[7] = {0, 1, 2, 3, 4, 5, 6};
+    static const uint32_t labels[16] = {
+        SIMMEROTTER_STATEMENT_LABEL, 1, 3, 1, 0, 0, 0, 1, SIMMEROTTER_STATEMENT_LABEL, 3, 5, 2, 0, 0, 0, 3,
+    };
+    static const uint32_t zeros[16] = {0};
+    uint32_t untouched[16];
+
+    fill(untouched, LENGTH(untouched));
+    read_labels("lenient", SIMMEROTTER_LENIENT, accepted, kept, labels);
+    read_labels("strict", SIMMEROTTER_STRICT, refused, kept, zeros);
+    read_labels("unknown mode", 2, unknown, untouched, untouched);
 }
 
 int main(void)
@@ -155,8 +196,9 @@ int main(void)
     read_short();
     read_table();
     read_later_body();
+    read_in_modes();
     if (failures != 0)
         return 1;
-    printf("C: four calls as they should be\n");
+    printf("C: seven calls as they should be\n");
     return 0;
 }

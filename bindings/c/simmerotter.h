@@ -6,14 +6,15 @@
  * - A list passes as a pointer and its length in elements: bytes of text, 32-bit words elsewhere. A token is four words.
  * - No pointer may be null, at length 0 either: give any aligned address then.
  * - The lent lists (kept, definitions, statements, arguments) and the answer must not overlap anything else that is passed.
- * - A call takes up to about 100 KB of stack. Calls share nothing: threads may call at once, each with lists of its own.
+ * - A call takes up to about 60 KB of stack in mode 0; in mode 1 up to about 260 KB. Calls share nothing: threads may call at once,
+ *   each with lists of its own.
  *
  * Room that always suffices, for n tokens: n words of kept list, n / 2 definition records, n statement records, n argument
  * records. With less, a call answers 32 to 35 and its cursor says how many records (kept list: words) are needed.
  *
  * After a call
  * - answer[SIMMEROTTER_NUMBER] is 0 if the input was accepted, else a refusal's number.
- * - After 30, 31 and 35 nothing lent has changed.
+ * - After 30, 31, 35 and 36 nothing lent has changed.
  * - Otherwise the first words of the kept list hold the numbers of the tokens that are neither Whitespace nor Comment, in order,
  *   and its other words are untouched. The tables hold the records followed by zeros; after a refusal, only zeros.
  * - A place counts kept tokens from 0: place p is the token whose four words start at tokens[4 * kept[p]]. Ends are exclusive.
@@ -42,8 +43,22 @@ extern "C" {
 /* A place that is absent; as a plain length: the body has none. */
 #define SIMMEROTTER_NONE 4294967295u
 
+/*
+ * The mode of a call; any other number is answered by 36.
+ *
+ * Strict is for new code and for every compiler that is free to refuse: a label that ends in a bare push swallows the code behind
+ * it as its operand, and of two labels with one name a jump goes to one of them unseen. Lenient is for where the answer must
+ * equal huff-rs's.
+ */
+enum simmerotter_mode {
+    SIMMEROTTER_LENIENT = 0, /* as huff-rs reads: no push is tested inside a label, and a label's name may stand twice in a body */
+    SIMMEROTTER_STRICT = 1   /* inside a label, too, a value push needs a literal that fits it (4), and a label's name may stand
+                              * once in a body (22) */
+};
+
 /* Reads a whole file. */
 void simmerotter_read_file(
+    uint32_t mode,
     const uint8_t *text, size_t text_len,
     const uint32_t *tokens, size_t tokens_len,
     uint32_t *kept, size_t kept_len,
@@ -54,6 +69,7 @@ void simmerotter_read_file(
 
 /* Reads one body, whose opening brace is at place `start`. What follows the body's closing brace is not read. */
 void simmerotter_read_body(
+    uint32_t mode,
     const uint8_t *text, size_t text_len,
     const uint32_t *tokens, size_t tokens_len,
     size_t start,
@@ -71,12 +87,12 @@ enum simmerotter_answer {
     SIMMEROTTER_FILE_ARGUMENTS = 4,
     SIMMEROTTER_BODY_STATEMENTS = 2,
     SIMMEROTTER_BODY_ARGUMENTS = 3,
-    /* Bytes of code; SIMMEROTTER_NONE if the body holds more than literals, opcodes, labels and label calls, or if a
-     * value push in a label has directly behind it, in the same label, no literal that fits it. */
+    /* Bytes of code; SIMMEROTTER_NONE if the body holds more than literals, opcodes, labels and label calls, or, in mode 0,
+     * if a value push in a label has directly behind it, in the same label, no literal that fits it. */
     SIMMEROTTER_BODY_PLAIN_LENGTH = 4
 };
 
-/* Why input was refused. For 1 to 21 the cursor is a place. */
+/* Why input was refused. For 1 to 22 the cursor is a place. */
 enum simmerotter_refusal {
     SIMMEROTTER_ACCEPTED = 0,
     SIMMEROTTER_UNEXPECTED_TYPE = 1,
@@ -94,12 +110,14 @@ enum simmerotter_refusal {
     SIMMEROTTER_INVALID_ARG_CALL_IDENT = 13,
     SIMMEROTTER_REPEATED_NAME = 20,        /* cursor: the later name */
     SIMMEROTTER_POUND_AT_TOP_LEVEL = 21,
+    SIMMEROTTER_DUPLICATE_LABEL = 22,      /* mode 1 alone; cursor: the later Label */
     SIMMEROTTER_NOT_WELL_FORMED = 30,      /* cursor: the first bad token's number in the lent list, or 0 */
     SIMMEROTTER_START_OUTSIDE = 31,        /* cursor: that start */
     SIMMEROTTER_DEFINITIONS_TOO_SMALL = 32, /* cursor: the records needed */
     SIMMEROTTER_STATEMENTS_TOO_SMALL = 33, /* cursor: the records needed */
     SIMMEROTTER_ARGUMENTS_TOO_SMALL = 34,  /* cursor: the records needed */
-    SIMMEROTTER_KEPT_TOO_SHORT = 35        /* cursor: the words needed */
+    SIMMEROTTER_KEPT_TOO_SHORT = 35,       /* cursor: the words needed */
+    SIMMEROTTER_UNKNOWN_MODE = 36          /* before any other; cursor: 0 */
 };
 
 /* The words of a token. Start and end count bytes of the text. */

@@ -1,6 +1,7 @@
 //! The command line.
 
 use crate::place::clean;
+use simmerotter::Mode;
 use std::ffi::OsString;
 use std::fmt;
 
@@ -14,6 +15,9 @@ Usage:
   simmerotter --records [...] TEXT WORDS
                                        prints a record a line, for programs; --places adds a line a place
   simmerotter --help                   prints this
+
+  --strict, with any of them, also refuses a push in a label without a literal that fits it, and a label that
+  stands twice in a body. Without it both are accepted, and a person is warned of the first
 
   TEXT   the Huff text; at most 1048576 bytes
   WORDS  its token list: little-endian 32-bit words, four a token (kind, start, end, extra); at most 65536
@@ -49,6 +53,7 @@ pub enum Form {
 #[derive(Debug, PartialEq, Eq)]
 pub struct Job {
     pub entry: Entry,
+    pub mode: Mode,
     pub form: Form,
     pub text: OsString,
     pub words: OsString,
@@ -97,6 +102,7 @@ pub fn shown(word: &std::ffi::OsStr) -> String {
 #[derive(Default)]
 struct Found {
     help: bool,
+    strict: bool,
     records: bool,
     places: bool,
     body: Option<usize>,
@@ -113,6 +119,7 @@ pub fn parse(words: impl Iterator<Item = OsString>) -> Result<Request, Wrong> {
     while let Some(word) = words.next() {
         match word.to_str() {
             Some("--help") => found.help = true,
+            Some("--strict") => once(&mut found.strict, "--strict")?,
             Some("--records") => once(&mut found.records, "--records")?,
             Some("--places") => once(&mut found.places, "--places")?,
             Some("--body") if found.body.is_some() => return Err(Wrong::Twice("--body")),
@@ -157,12 +164,13 @@ impl Found {
         if self.places && !self.records {
             return Err(Wrong::PlacesAlone);
         }
+        let mode = if self.strict { Mode::Strict } else { Mode::Lenient };
         let form = if self.records { Form::Records { places: self.places } } else { Form::Person };
         let entry = self.body.map_or(Entry::File, Entry::Body);
         let count = self.paths.len();
         let mut paths = self.paths.into_iter();
         match (paths.next(), paths.next(), paths.next()) {
-            (Some(text), Some(words), None) => Ok(Request::Read(Job { entry, form, text, words })),
+            (Some(text), Some(words), None) => Ok(Request::Read(Job { entry, mode, form, text, words })),
             _ => Err(Wrong::Paths(count)),
         }
     }

@@ -15,7 +15,7 @@ mod well_formed;
 use arguments::{Entry, Form, Job, Request};
 use place::Lines;
 use refusal::Site;
-use simmerotter::{Refused, Room};
+use simmerotter::{Mode, Options, Refused, Room};
 use std::env;
 use std::io::{self, ErrorKind, Write};
 use std::process::ExitCode;
@@ -80,7 +80,7 @@ fn read(job: &Job) -> Outcome {
 
 fn call(job: &Job, text: &[u8], tokens: &[u32]) -> Outcome {
     let lines = Lines::new(text);
-    let mut room = Room::new();
+    let mut room = room_in(job.mode);
     let shown = match job.entry {
         Entry::File => room.read_file(text, tokens).map(|file| match job.form {
             Form::Person => person::file(&job.text, file, text, tokens, &lines),
@@ -92,8 +92,29 @@ fn call(job: &Job, text: &[u8], tokens: &[u32]) -> Outcome {
         }),
     };
     match shown {
-        Ok(out) => Outcome::accepted(out),
+        Ok(out) => Outcome { err: warning(job, text, tokens, &lines), ..Outcome::accepted(out) },
         Err(refused) => refusal_of(job, refused, &Site::new(text, tokens, room.kept(), &lines, refused)),
+    }
+}
+
+fn room_in(mode: Mode) -> Room {
+    Room::with(Options::default().mode(mode))
+}
+
+/// What `--strict` would refuse of input that was accepted without it. A person is told unasked; a program gets what it asked for
+/// and nothing on standard error.
+fn warning(job: &Job, text: &[u8], tokens: &[u32], lines: &Lines) -> String {
+    if job.mode == Mode::Strict || job.form != Form::Person {
+        return String::new();
+    }
+    let mut room = room_in(Mode::Strict);
+    let refused = match job.entry {
+        Entry::File => room.read_file(text, tokens).err(),
+        Entry::Body(start) => room.read_body(text, tokens, start).err(),
+    };
+    match refused {
+        Some(refused) => refusal::warning(job, refused, &Site::new(text, tokens, room.kept(), lines, refused)),
+        None => String::new(),
     }
 }
 

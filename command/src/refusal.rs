@@ -33,7 +33,7 @@ impl<'a> Site<'a> {
                 }
                 Fault::Whole(_) => nowhere,
             },
-            Cursor::Start | Cursor::Needed => nowhere,
+            Cursor::Start | Cursor::Needed | Cursor::Nothing => nowhere,
         }
     }
 
@@ -48,6 +48,12 @@ impl<'a> Site<'a> {
     fn text_of(&self, token: &TokenAt) -> String {
         clean(token.text_in(self.text))
     }
+
+    /// The labels before a place of a body, the nearest first. A body holds no braces, so the nearest one opens it.
+    fn labels_before(&self, place: usize) -> impl Iterator<Item = TokenAt> + '_ {
+        let tokens = (0..place).rev().map_while(move |place| self.token(place));
+        tokens.take_while(|token| token.kind != Kind::OpenBrace).filter(|token| token.kind == Kind::Label)
+    }
 }
 
 /// The bytes that a bad token names, as far as they lie in the text.
@@ -59,9 +65,18 @@ fn bytes_within(words: TokenWords, length: usize) -> Option<Range<usize>> {
 
 /// The whole message, lines and all.
 pub fn message(job: &Job, refused: Refused, site: &Site) -> String {
-    let refusal = refused.refusal;
-    let (number, name) = (refusal.number(), refusal.name());
-    let mut message = format!("{}: {} {}: {}\n", head(job, refusal, site), number, name, sentence(refused, site));
+    introduced("", job, refused, site)
+}
+
+/// The same message about input that was accepted, for `--strict` was not given.
+pub fn warning(job: &Job, refused: Refused, site: &Site) -> String {
+    introduced("warning: --strict would refuse this: ", job, refused, site)
+}
+
+fn introduced(introduction: &str, job: &Job, refused: Refused, site: &Site) -> String {
+    let (head, sentence) = (head(job, refused.refusal, site), sentence(refused, site));
+    let (number, name) = (refused.refusal.number(), refused.refusal.name());
+    let mut message = format!("{}: {}{} {}: {}\n", head, introduction, number, name, sentence);
     if let Some(bytes) = &site.bytes {
         let excerpt = site.lines.excerpt(bytes);
         message += &format!("{}\n{}\n", excerpt.line, excerpt.carets);
@@ -85,6 +100,7 @@ fn sentence(refused: Refused, site: &Site) -> String {
         Refusal::StartOutside => start_sentence(refused.cursor, site.tokens),
         Refusal::InvalidPush => push_sentence(refused.cursor, site).unwrap_or_else(|| message.to_string()),
         Refusal::RepeatedName => repeated_sentence(message, refused.cursor, site),
+        Refusal::DuplicateLabel => duplicate_sentence(refused.cursor, site).unwrap_or_else(|| message.to_string()),
         Refusal::InvalidArgs => args_sentence(message, refused.cursor, site),
         _ => match (refused.refusal.cursor(), site.token(refused.cursor)) {
             (Cursor::Place, Some(token)) => format!("{}; found {}", message, token.kind),
@@ -102,14 +118,21 @@ fn start_sentence(start: usize, tokens: &[u32]) -> String {
 /// A push is refused behind its literal if that is too large, and where the literal is missed if there is none.
 fn push_sentence(cursor: usize, site: &Site) -> Option<String> {
     let before = site.token(cursor.checked_sub(1)?)?;
+    let under = under_label(cursor, site);
     if before.kind == Kind::Opcode {
         let found = site.token(cursor)?.kind;
-        return Some(format!("{} needs a literal behind it; found {}", site.text_of(&before), found));
+        return Some(format!("{}{} needs a literal behind it; found {}", under, site.text_of(&before), found));
     }
     let push = site.token(cursor.checked_sub(2)?)?;
     let takes = push.extra.checked_sub(0x5f)?;
     let has = significant_bytes(before.text_in(site.text));
-    Some(format!("{} has {} bytes and {} takes {}", site.text_of(&before), has, site.text_of(&push), takes))
+    Some(format!("{}{} has {} bytes and {} takes {}", under, site.text_of(&before), has, site.text_of(&push), takes))
+}
+
+/// Names the label that a push stands under, if it does: there only strict reading refuses it.
+fn under_label(cursor: usize, site: &Site) -> String {
+    let label = site.labels_before(cursor).next();
+    label.map_or_else(String::new, |label| format!("under the label `{}` ", site.text_of(&label)))
 }
 
 /// How many bytes a literal's digits take without the zeros in front.
@@ -134,6 +157,15 @@ fn repeated_sentence(message: &str, cursor: usize, site: &Site) -> String {
         Some(first) => format!("{}, at {}", message, site.lines.position(first.bytes.start)),
         None => message.to_string(),
     }
+}
+
+/// Says where the first of two labels stands.
+fn duplicate_sentence(cursor: usize, site: &Site) -> Option<String> {
+    let later = site.token(cursor)?;
+    let has_its_name = |label: &TokenAt| label.text_in(site.text) == later.text_in(site.text);
+    let first = site.lines.position(site.labels_before(cursor).find(has_its_name)?.bytes.start);
+    let name = site.text_of(&later);
+    Some(format!("the label `{}` stands twice in this body, first at {}; give one of them another name", name, first))
 }
 
 /// Lists of macros and builtins are refused one past a comma that follows nothing.

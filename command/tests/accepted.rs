@@ -74,9 +74,9 @@ line:col  places        what
 #[test]
 fn every_type_of_statement() {
     let text = "{ 0x04 push1 0x01 go F ( ) F ( 0x20 , a < b > calldata ) [ C ] < a >\n __x ( \"s\" , 0x01 memory n ) go : dup1 \
-                push4 [ C ] end : }";
+                push4 0x01 [ C ] end : }";
     let wanted = "\
-accepted_types.huff: accepted: 14 statements, 7 arguments, no plain length; the end is place 42
+accepted_types.huff: accepted: 15 statements, 7 arguments, no plain length; the end is place 43
 line:col  places        what
 1:3       1..2          literal 0x04
 1:8       2..3          opcode push1 (0x60)
@@ -87,11 +87,12 @@ line:col  places        what
 1:58      18..21        constant [C]
 1:64      21..24        argument call <a>
 2:2       24..32        builtin __x(\"s\", 0x01, memory n)
-2:30      32..39        label go:
+2:30      32..40        label go:
 2:35      34..35          opcode dup1 (0x80)
 2:40      35..36          opcode push4 (0x63)
-2:46      36..39          constant [C]
-2:52      39..41        label end:
+2:46      36..37          literal 0x01
+2:51      37..40          constant [C]
+2:57      40..42        label end:
 ";
     assert_eq!(body("accepted_types", text), wanted);
 }
@@ -119,7 +120,7 @@ fn a_push_in_a_label_has_its_operand_or_the_body_no_length() {
         ("{ go : push1 b : 0x01 }", "no plain length"),
     ];
     for (text, length) in rows {
-        let found = body("accepted_operand", text);
+        let (found, _) = Input::new("accepted_operand", text.as_bytes(), &cut(text)).warned(&["--body", "0"]);
         assert!(found.lines().next().unwrap().contains(&format!(", {};", length)), "{}: {}", text, found);
     }
 }

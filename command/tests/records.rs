@@ -3,7 +3,7 @@
 mod common;
 
 use common::{cut, Input};
-use simmerotter::{raw, Room, NONE};
+use simmerotter::{raw, Mode, Room, NONE};
 
 const FILE: &str = "\
 #include \"a\"
@@ -31,7 +31,8 @@ fn a_file_is_the_library_s_answer_and_tables() {
     let room = words.len();
     let (mut kept, mut definitions) = (vec![0; room], vec![0; 3 * room]);
     let (mut statements, mut arguments) = (vec![0; 2 * room], vec![0; 2 * room]);
-    let answer = raw::read_file(FILE.as_bytes(), &words, &mut kept, &mut definitions, &mut statements, &mut arguments);
+    let mode = Mode::Lenient.number();
+    let answer = raw::read_file(mode, FILE.as_bytes(), &words, &mut kept, &mut definitions, &mut statements, &mut arguments);
     let [number, cursor, d, s, a] = answer;
     assert_eq!((number, d, s, a), (0, 5, 7, 7));
     let wanted = lines_of(
@@ -51,7 +52,8 @@ fn a_body_is_the_library_s_answer_and_tables() {
     let text = "{ push1 0x01 F ( a ) go : stop }";
     let words = cut(text);
     let (mut kept, mut statements, mut arguments) = (vec![0; 20], vec![0; 80], vec![0; 70]);
-    let answer = raw::read_body(text.as_bytes(), &words, 0, &mut kept, &mut statements, &mut arguments);
+    let mode = Mode::Lenient.number();
+    let answer = raw::read_body(mode, text.as_bytes(), &words, 0, &mut kept, &mut statements, &mut arguments);
     let [number, cursor, s, a, length] = answer;
     assert_eq!((number, s, a, length), (0, 5, 1, u64::from(NONE)));
     let wanted = lines_of(

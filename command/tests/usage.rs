@@ -14,7 +14,7 @@ fn help() -> String {
 fn help_is_printed_on_standard_output() {
     let found = run(&["--help"]);
     assert_eq!((found.status, found.err.as_str()), (Some(0), ""));
-    for part in ["simmerotter TEXT WORDS", "--body PLACE", "--records", "--places", "--help", "Example:"] {
+    for part in ["simmerotter TEXT WORDS", "--body PLACE", "--strict", "--records", "--places", "--help", "Example:"] {
         assert!(found.out.contains(part), "{}", part);
     }
 }
@@ -42,6 +42,9 @@ fn wrong_usage_is_named() {
     assert_eq!(wrong(&["--record", "a", "b"]), "simmerotter: unknown option --record");
     assert_eq!(wrong(&["-r", "a", "b"]), "simmerotter: unknown option -r");
     assert_eq!(wrong(&["--records", "a", "b", "--records"]), "simmerotter: --records is given twice");
+    assert_eq!(wrong(&["--strict", "--strict", "a", "b"]), "simmerotter: --strict is given twice");
+    assert_eq!(wrong(&["--strict=1", "a", "b"]), "simmerotter: unknown option --strict=1");
+    assert_eq!(wrong(&["--strict"]), "simmerotter: two paths are needed, TEXT and WORDS; 0 given");
     assert_eq!(wrong(&["--body", "1", "--body", "1", "a", "b"]), "simmerotter: --body is given twice");
     assert_eq!(wrong(&["--places", "a", "b"]), "simmerotter: --places goes with --records");
     assert_eq!(wrong(&["a"]), "simmerotter: two paths are needed, TEXT and WORDS; 1 given");

@@ -44,8 +44,8 @@ impl<'a> Body<'a> {
         self.end
     }
 
-    /// The bytes of code that the body makes. `None` if it holds more than literals, opcodes, labels and label calls, or
-    /// if a value push in a label has directly behind it, in the same label, no literal that fits it.
+    /// The bytes of code that the body makes. `None` if it holds more than literals, opcodes, labels and label calls, or,
+    /// read leniently, if a value push in a label has directly behind it, in the same label, no literal that fits it.
     pub fn plain_length(self) -> Option<u64> {
         self.plain_length
     }

@@ -2,7 +2,7 @@
 //!
 //! A [`Room`] holds the tables that the parser writes into. It reads a whole file into a [`File`] or one macro body into a
 //! [`Body`], and their definitions, statements and arguments are views over those tables. Bad input gives a [`Refused`]: a
-//! number and a cursor.
+//! number and a cursor. A room's [`Options`] say in which [`Mode`] it reads, leniently if they say nothing.
 //!
 //! Two words occur everywhere. A token's *number* is its index in the token list. A *place* counts only the tokens that are
 //! neither white space nor comment, from 0. Ends of ranges are exclusive.
@@ -36,6 +36,7 @@
 mod body;
 mod file;
 pub mod kinds;
+pub mod options;
 pub mod raw;
 mod reading;
 pub mod records;
@@ -47,6 +48,7 @@ pub mod token;
 pub use body::Body;
 pub use file::File;
 pub use kinds::Kind;
+pub use options::{Mode, Options};
 pub use records::{
     Argument, ArgumentForm, Arguments, Definition, DefinitionKind, Definitions, FunctionType, Location, Statement, StatementKind,
     Statements, Value,
@@ -76,7 +78,7 @@ pub const ARGUMENT_WORDS: usize = 7;
 /// Stands in a record for a place that is absent, and in a body's answer for a plain length that it doesn't have.
 pub const NONE: u32 = 4_294_967_295;
 
-/// The example of README.md, compiled and run with the other tests.
+/// The examples of README.md, compiled and run with the other tests.
 #[cfg(doctest)]
 #[doc = include_str!("../README.md")]
 pub struct Readme;

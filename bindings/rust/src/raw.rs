@@ -1,11 +1,13 @@
-//! The archive's two functions over slices, as they are: the caller lends every list and reads the five numbers.
+//! The archive's two functions over slices, as they are: the caller gives a mode's number ([`Mode::number`](crate::Mode::number)),
+//! lends every list and reads the five numbers. Another number than those of modes is answered by 36.
 //!
-//! A call takes up to about 100 KB of stack. Calls share nothing, so threads may call at once.
+//! A call takes up to about 60 KB of stack in mode 0; in mode 1 up to about 260 KB. Calls share nothing, so threads may call at once.
 
 #![allow(unsafe_code)]
 
 extern "C" {
     fn simmerotter_read_file(
+        mode: u32,
         text: *const u8,
         text_len: usize,
         tokens: *const u32,
@@ -22,6 +24,7 @@ extern "C" {
     );
 
     fn simmerotter_read_body(
+        mode: u32,
         text: *const u8,
         text_len: usize,
         tokens: *const u32,
@@ -37,8 +40,9 @@ extern "C" {
     );
 }
 
-/// Reads a whole file. The answer: number (0 accepted), cursor, definitions, statements, arguments.
+/// Reads a whole file in a mode. The answer: number (0 accepted), cursor, definitions, statements, arguments.
 pub fn read_file(
+    mode: u32,
     text: &[u8],
     tokens: &[u32],
     kept: &mut [u32],
@@ -51,6 +55,7 @@ pub fn read_file(
     // borrow checker keeps the lent lists apart from each other and from what is read. That is all the archive asks.
     unsafe {
         simmerotter_read_file(
+            mode,
             text.as_ptr(),
             text.len(),
             tokens.as_ptr(),
@@ -69,9 +74,10 @@ pub fn read_file(
     answer
 }
 
-/// Reads the body whose opening brace is at place `start`. The answer: number (0 accepted), cursor, statements, arguments,
-/// plain length ([`crate::NONE`] if the body has none).
+/// Reads the body whose opening brace is at place `start` in a mode. The answer: number (0 accepted), cursor, statements,
+/// arguments, plain length ([`crate::NONE`] if the body has none).
 pub fn read_body(
+    mode: u32,
     text: &[u8],
     tokens: &[u32],
     start: usize,
@@ -83,6 +89,7 @@ pub fn read_body(
     // As in `read_file`.
     unsafe {
         simmerotter_read_body(
+            mode,
             text.as_ptr(),
             text.len(),
             tokens.as_ptr(),

@@ -11,7 +11,7 @@ pub enum Refusal {
     InvalidDefinition,
     /// 3. A constant's value is neither a literal nor the free storage pointer.
     InvalidConstantValue,
-    /// 4. A push has no literal, or one that is too large for it.
+    /// 4. A push has no literal, or one that is too large for it. Under a label in [`Mode::Strict`](crate::Mode::Strict) alone.
     InvalidPush,
     /// 5. A token that can't stand in a macro's body.
     InvalidTokenInMacroBody,
@@ -35,6 +35,8 @@ pub enum Refusal {
     RepeatedName,
     /// 21. `#` alone outside of definitions.
     PoundAtTopLevel,
+    /// 22. A label is named like an earlier one of its body. In [`Mode::Strict`](crate::Mode::Strict) alone.
+    DuplicateLabel,
     /// 30. The text is too long, or the token list is not well formed.
     NotWellFormed,
     /// 31. The body's start is not below the number of kept tokens.
@@ -47,6 +49,8 @@ pub enum Refusal {
     ArgumentsTooSmall,
     /// 35. The kept list is too short. A [`Room`](crate::Room) never answers so.
     KeptTooShort,
+    /// 36. No mode has the number that was given. A [`Room`](crate::Room) never answers so.
+    UnknownMode,
     /// A number that this crate does not know, which an archive of another version may give.
     Unknown(u32),
 }
@@ -54,7 +58,7 @@ pub enum Refusal {
 /// What a refusal's cursor counts.
 #[derive(Clone, Copy, Debug, PartialEq, Eq, Hash)]
 pub enum Cursor {
-    /// A place: an index among the kept tokens (1 to 21).
+    /// A place: an index among the kept tokens (1 to 22).
     Place,
     /// A token's number in the token list as lent, or 0 if the list as a whole or the text is at fault (30).
     Token,
@@ -62,11 +66,13 @@ pub enum Cursor {
     Start,
     /// How many records, or words of the kept list, are needed (32 to 35).
     Needed,
+    /// Nothing: it is 0 (36).
+    Nothing,
 }
 
 impl Refusal {
     /// Every refusal of the rules, in the order of the numbers.
-    pub const ALL: [Refusal; 21] = [
+    pub const ALL: [Refusal; 23] = [
         Refusal::UnexpectedType,
         Refusal::InvalidDefinition,
         Refusal::InvalidConstantValue,
@@ -82,12 +88,14 @@ impl Refusal {
         Refusal::InvalidArgCallIdent,
         Refusal::RepeatedName,
         Refusal::PoundAtTopLevel,
+        Refusal::DuplicateLabel,
         Refusal::NotWellFormed,
         Refusal::StartOutside,
         Refusal::DefinitionsTooSmall,
         Refusal::StatementsTooSmall,
         Refusal::ArgumentsTooSmall,
         Refusal::KeptTooShort,
+        Refusal::UnknownMode,
     ];
 
     /// The refusal's number.
@@ -108,12 +116,14 @@ impl Refusal {
             Refusal::InvalidArgCallIdent => 13,
             Refusal::RepeatedName => 20,
             Refusal::PoundAtTopLevel => 21,
+            Refusal::DuplicateLabel => 22,
             Refusal::NotWellFormed => 30,
             Refusal::StartOutside => 31,
             Refusal::DefinitionsTooSmall => 32,
             Refusal::StatementsTooSmall => 33,
             Refusal::ArgumentsTooSmall => 34,
             Refusal::KeptTooShort => 35,
+            Refusal::UnknownMode => 36,
             Refusal::Unknown(number) => number,
         }
     }
@@ -141,12 +151,14 @@ impl Refusal {
             Refusal::InvalidArgCallIdent => "InvalidArgCallIdent",
             Refusal::RepeatedName => "RepeatedName",
             Refusal::PoundAtTopLevel => "PoundAtTopLevel",
+            Refusal::DuplicateLabel => "DuplicateLabel",
             Refusal::NotWellFormed => "NotWellFormed",
             Refusal::StartOutside => "StartOutside",
             Refusal::DefinitionsTooSmall => "DefinitionsTooSmall",
             Refusal::StatementsTooSmall => "StatementsTooSmall",
             Refusal::ArgumentsTooSmall => "ArgumentsTooSmall",
             Refusal::KeptTooShort => "KeptTooShort",
+            Refusal::UnknownMode => "UnknownMode",
             Refusal::Unknown(_) => "Unknown",
         }
     }
@@ -169,12 +181,14 @@ impl Refusal {
             Refusal::InvalidArgCallIdent => "an argument's name must follow <",
             Refusal::RepeatedName => "an earlier macro, fn or test has this name",
             Refusal::PoundAtTopLevel => "a lone # can't stand outside of definitions",
+            Refusal::DuplicateLabel => "an earlier label of this body has this name",
             Refusal::NotWellFormed => "the text is too long or the token list is not well formed",
             Refusal::StartOutside => "the body's start lies outside of the kept tokens",
             Refusal::DefinitionsTooSmall => "the definition table has too few records",
             Refusal::StatementsTooSmall => "the statement table has too few records",
             Refusal::ArgumentsTooSmall => "the argument table has too few records",
             Refusal::KeptTooShort => "the kept list is too short",
+            Refusal::UnknownMode => "no mode has the number that was given",
             Refusal::Unknown(_) => "the archive gave a number that this crate does not know",
         }
     }
@@ -187,6 +201,7 @@ impl Refusal {
             Refusal::DefinitionsTooSmall | Refusal::StatementsTooSmall | Refusal::ArgumentsTooSmall | Refusal::KeptTooShort => {
                 Cursor::Needed
             }
+            Refusal::UnknownMode => Cursor::Nothing,
             _ => Cursor::Place,
         }
     }
@@ -222,7 +237,11 @@ impl Refused {
 impl fmt::Display for Refused {
     fn fmt(&self, f: &mut fmt::Formatter<'_>) -> fmt::Result {
         let (message, name, number) = (self.refusal.message(), self.refusal.name(), self.refusal.number());
-        write!(f, "{} ({}, {}) at {} {}", message, name, number, self.refusal.cursor(), self.cursor)
+        write!(f, "{} ({}, {})", message, name, number)?;
+        match self.refusal.cursor() {
+            Cursor::Nothing => Ok(()),
+            counted => write!(f, " at {} {}", counted, self.cursor),
+        }
     }
 }
 
@@ -233,6 +252,7 @@ impl fmt::Display for Cursor {
             Cursor::Token => "token",
             Cursor::Start => "start",
             Cursor::Needed => "a need of",
+            Cursor::Nothing => "nothing",
         })
     }
 }

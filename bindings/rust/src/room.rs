@@ -2,6 +2,7 @@
 
 use crate::body::Body;
 use crate::file::File;
+use crate::options::{Mode, Options};
 use crate::raw;
 use crate::reading::{Reading, Tables};
 use crate::refusal::{Refusal, Refused};
@@ -9,10 +10,12 @@ use crate::token::{kept_count, TokenAt};
 use crate::{MAX_TOKENS, NONE, TOKEN_WORDS};
 use std::fmt;
 
-/// Buffers for the kept list and the tables, used again from call to call. They grow as needed and never shrink.
+/// Buffers for the kept list and the tables, used again from call to call. They grow as needed and never shrink. All calls read
+/// by the room's options.
 ///
 /// A room serves one call at a time; threads take one each.
 pub struct Room {
+    options: Options,
     tables: Tables,
 }
 
@@ -35,14 +38,20 @@ impl Enough {
 }
 
 impl Room {
-    /// An empty room.
+    /// An empty room that reads leniently.
     pub fn new() -> Room {
-        Room { tables: Tables::new() }
+        Room::with(Options::default())
+    }
+
+    /// An empty room that reads by these options.
+    pub fn with(options: Options) -> Room {
+        Room { options, tables: Tables::new() }
     }
 
     /// Reads a whole file: its text and its token list, four words a token.
     pub fn read_file<'a>(&'a mut self, text: &'a [u8], tokens: &'a [u32]) -> Result<File<'a>, Refused> {
-        let answer = self.tables.until_room(tokens, |tables, enough| tables.call_file(text, tokens, enough));
+        let mode = self.options.mode;
+        let answer = self.tables.until_room(tokens, |tables, enough| tables.call_file(mode, text, tokens, enough));
         let [number, cursor, definitions, statements, arguments] = answer;
         let end = self.tables.settle(tokens, number, cursor, [definitions, statements, arguments])?;
         Ok(File { reading: Reading { text, tokens, tables: &self.tables }, end })
@@ -50,7 +59,8 @@ impl Room {
 
     /// Reads the body whose opening brace is at place `start`.
     pub fn read_body<'a>(&'a mut self, text: &'a [u8], tokens: &'a [u32], start: usize) -> Result<Body<'a>, Refused> {
-        let answer = self.tables.until_room(tokens, |tables, enough| tables.call_body(text, tokens, start, enough));
+        let mode = self.options.mode;
+        let answer = self.tables.until_room(tokens, |tables, enough| tables.call_body(mode, text, tokens, start, enough));
         let [number, cursor, statements, arguments, length] = answer;
         let end = self.tables.settle(tokens, number, cursor, [0, statements, arguments])?;
         let plain_length = Some(length).filter(|length| *length != u64::from(NONE));
@@ -120,8 +130,9 @@ impl Tables {
     }
 
     /// A table that has grown for a large list is lent to a small one only as far as that can need: a call clears all it gets.
-    fn call_file(&mut self, text: &[u8], tokens: &[u32], enough: Enough) -> [u64; 5] {
+    fn call_file(&mut self, mode: Mode, text: &[u8], tokens: &[u32], enough: Enough) -> [u64; 5] {
         raw::read_file(
+            mode.number(),
             text,
             tokens,
             self.kept.lend(enough.kept),
@@ -131,8 +142,9 @@ impl Tables {
         )
     }
 
-    fn call_body(&mut self, text: &[u8], tokens: &[u32], start: usize, enough: Enough) -> [u64; 5] {
+    fn call_body(&mut self, mode: Mode, text: &[u8], tokens: &[u32], start: usize, enough: Enough) -> [u64; 5] {
         raw::read_body(
+            mode.number(),
             text,
             tokens,
             start,
@@ -161,8 +173,8 @@ impl Tables {
 
 /// Whether the kept list was written before this refusal.
 fn wrote_kept(refusal: Refusal) -> bool {
-    let unchanged = matches!(refusal, Refusal::NotWellFormed | Refusal::StartOutside | Refusal::KeptTooShort);
-    !unchanged && !matches!(refusal, Refusal::Unknown(_))
+    let unchanged = [Refusal::UnknownMode, Refusal::NotWellFormed, Refusal::StartOutside, Refusal::KeptTooShort];
+    !unchanged.contains(&refusal) && !matches!(refusal, Refusal::Unknown(_))
 }
 
 fn to_size(number: u64) -> usize {
@@ -177,7 +189,7 @@ impl Default for Room {
 
 impl fmt::Debug for Room {
     fn fmt(&self, f: &mut fmt::Formatter<'_>) -> fmt::Result {
-        f.debug_struct("Room").field("kept", &self.tables.kept.records()).finish()
+        f.debug_struct("Room").field("options", &self.options).field("kept", &self.tables.kept.records()).finish()
     }
 }
 
@@ -244,8 +256,18 @@ mod tests {
     #[test]
     fn an_unknown_number_is_a_refusal() {
         let mut tables = Tables::new();
-        let refused = tables.settle(&opcodes(1), 36, 7, [0; 3]).unwrap_err();
-        assert_eq!((refused.refusal, refused.refusal.number(), refused.cursor), (Refusal::Unknown(36), 36, 7));
+        let refused = tables.settle(&opcodes(1), 37, 7, [0; 3]).unwrap_err();
+        assert_eq!((refused.refusal, refused.refusal.number(), refused.cursor), (Refusal::Unknown(37), 37, 7));
+        assert!(tables.kept.words().is_empty());
+    }
+
+    /// No room gives an unknown mode, but an older archive might not know a newer one's number.
+    #[test]
+    fn an_unknown_mode_is_a_refusal_that_wrote_nothing() {
+        let mut tables = Tables::new();
+        tables.kept.grow(1);
+        let refused = tables.settle(&opcodes(1), 36, 0, [0; 3]).unwrap_err();
+        assert_eq!(refused, Refused { refusal: Refusal::UnknownMode, cursor: 0 });
         assert!(tables.kept.words().is_empty());
     }
 }

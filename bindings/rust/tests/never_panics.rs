@@ -2,9 +2,10 @@
 
 mod common;
 
-use common::{cases, Case, Chance, Lists, Source};
+use common::{cases, room_in, Case, Chance, Lists, Source};
 use simmerotter::{
-    Argument, Body, Definition, DefinitionKind, File, Kind, Refusal, Refused, Room, Statement, TokenAt, MAX_TEXT, MAX_TOKENS,
+    Argument, Body, Definition, DefinitionKind, File, Kind, Mode, Refusal, Refused, Room, Statement, TokenAt, MAX_TEXT,
+    MAX_TOKENS,
 };
 
 const RANDOM_LISTS: usize = 6_000;
@@ -13,24 +14,24 @@ const MUTATED_LISTS: usize = 16_000;
 #[test]
 fn random_words_are_answered() {
     let mut chance = Chance::new(1);
-    let mut room = Room::new();
+    let mut rooms = Mode::ALL.map(room_in);
     let mut tally = Tally::default();
     for _ in 0..RANDOM_LISTS {
         let text: Vec<u8> = (0..chance.below(40)).map(|_| chance.word() as u8).collect();
         let tokens: Vec<u32> = (0..chance.below(60)).map(|_| random_word(&mut chance)).collect();
         let start = random_start(&mut chance);
-        tally.read_both(&mut room, &text, &tokens, start);
+        tally.read_in_both_modes(&mut rooms, &text, &tokens, start);
     }
     println!("random words: {:?}", tally);
-    assert_eq!(tally.calls, 2 * RANDOM_LISTS);
-    assert!(tally.refused > RANDOM_LISTS, "{:?}", tally);
+    assert_eq!(tally.calls, 4 * RANDOM_LISTS);
+    assert!(tally.refused > 2 * RANDOM_LISTS, "{:?}", tally);
 }
 
 #[test]
 fn mutated_cases_are_answered() {
     let cases = cases();
     let mut chance = Chance::new(2);
-    let mut room = Room::new();
+    let mut rooms = Mode::ALL.map(room_in);
     let mut tally = Tally::default();
     for _ in 0..MUTATED_LISTS {
         let case = &cases[chance.below(cases.len())];
@@ -40,13 +41,13 @@ fn mutated_cases_are_answered() {
             1 => chance.below(tokens.len() + 1),
             _ => random_start(&mut chance),
         };
-        tally.read_both(&mut room, &text, &tokens, start);
+        tally.read_in_both_modes(&mut rooms, &text, &tokens, start);
     }
     println!("mutated cases: {:?}", tally);
-    assert_eq!(tally.calls, 2 * MUTATED_LISTS);
+    assert_eq!(tally.calls, 4 * MUTATED_LISTS);
     // Lists that pass the door are most of what this test is about.
-    assert!(tally.accepted > 1_000 && tally.refused_by_grammar > 5_000, "{:?}", tally);
-    assert!(tally.views > 10_000, "{:?}", tally);
+    assert!(tally.accepted > 2_000 && tally.refused_by_grammar > 10_000, "{:?}", tally);
+    assert!(tally.views > 20_000, "{:?}", tally);
 }
 
 /// Small numbers are kinds and positions; the others try the limits of 32 bits.
@@ -114,14 +115,16 @@ struct Tally {
 }
 
 impl Tally {
-    fn read_both(&mut self, room: &mut Room, text: &[u8], tokens: &[u32], start: usize) {
-        self.read_file(room, text, tokens);
-        self.read_body(room, text, tokens, start);
+    fn read_in_both_modes(&mut self, rooms: &mut [Room; 2], text: &[u8], tokens: &[u32], start: usize) {
+        for (mode, room) in Mode::ALL.into_iter().zip(rooms) {
+            self.read_file(mode, room, text, tokens);
+            self.read_body(mode, room, text, tokens, start);
+        }
     }
 
-    fn read_file(&mut self, room: &mut Room, text: &[u8], tokens: &[u32]) {
+    fn read_file(&mut self, mode: Mode, room: &mut Room, text: &[u8], tokens: &[u32]) {
         let mut lists = Lists::enough(tokens);
-        let answer = lists.read_file(text, tokens);
+        let answer = lists.read_file(mode.number(), text, tokens);
         match room.read_file(text, tokens) {
             Ok(file) => {
                 assert_eq!((answer[0], answer[1]), (0, file.end() as u64));
@@ -137,9 +140,9 @@ impl Tally {
         self.walk_room(room, tokens);
     }
 
-    fn read_body(&mut self, room: &mut Room, text: &[u8], tokens: &[u32], start: usize) {
+    fn read_body(&mut self, mode: Mode, room: &mut Room, text: &[u8], tokens: &[u32], start: usize) {
         let mut lists = Lists::enough(tokens);
-        let answer = lists.read_body(text, tokens, start);
+        let answer = lists.read_body(mode.number(), text, tokens, start);
         match room.read_body(text, tokens, start) {
             Ok(body) => {
                 assert_eq!((answer[0], answer[1]), (0, body.end() as u64));
@@ -238,13 +241,14 @@ fn walk_argument(argument: Argument<'_>) -> usize {
     1
 }
 
-/// Read as a file and as a body, it gets this refusal.
+/// Read as a file and as a body, in both modes, it gets this refusal.
 fn assert_refused(text: &[u8], tokens: &[u32], refusal: Refusal, cursor: usize) {
-    let mut room = Room::new();
     let refused = Refused { refusal, cursor };
-    assert_eq!(room.read_file(text, tokens).unwrap_err(), refused);
-    assert_eq!(room.read_body(text, tokens, 0).unwrap_err(), refused);
-    assert!(room.kept().is_empty());
+    for mut room in Mode::ALL.map(room_in) {
+        assert_eq!(room.read_file(text, tokens).unwrap_err(), refused);
+        assert_eq!(room.read_body(text, tokens, 0).unwrap_err(), refused);
+        assert!(room.kept().is_empty());
+    }
 }
 
 #[test]

@@ -1,52 +1,61 @@
-//! The fixed sample through the crate: two of its sections are the answers of the Rust parser that was ported, the others are
-//! written by hand from the rules.
+//! The fixed sample through the crate. Two of its sections are the answers of the Rust parser that was ported, two those of the
+//! rules as `oracle/rules.py` has them, most of them strict; the others are written by hand from the rules.
 
 mod common;
 
-use common::{cases, Case};
-use simmerotter::{Body, Definition, File, Refused, Room, Statement};
+use common::{cases, room_in, Case};
+use simmerotter::{Body, Definition, File, Mode, Refused, Room, Statement};
 
-/// The sample has 3,212 cases; a shorter one would prove less than this test says.
-const FEWEST: usize = 3_000;
+/// The sample has 4,171 cases, 632 of them strict; a shorter one would prove less than these tests say.
+const FEWEST: usize = 4_000;
+const FEWEST_STRICT: usize = 600;
 
 #[test]
 fn the_archive_leaves_what_the_cases_say() {
-    let cases = cases();
-    let (mut of_rust, mut by_hand) = (0, 0);
-    for case in &cases {
+    let (mut of_rust, mut of_rules, mut by_hand) = (0, 0, 0);
+    for case in &cases() {
         let (answer, lists) = case.call();
         assert_eq!(answer, case.answer, "answer of line {}", case.line);
         assert_eq!(lists, case.wanted, "lists of line {}", case.line);
-        match case.section.starts_with("the Rust's answers") {
-            true => of_rust += 1,
-            false => by_hand += 1,
+        match case.section.split(',').next() {
+            Some("the Rust's answers") => of_rust += 1,
+            Some("the rules' answers in mixed modes") => of_rules += 1,
+            _ => by_hand += 1,
         }
     }
-    println!("{} answers of the Rust and {} by hand, all the same", of_rust, by_hand);
-    assert!(of_rust >= FEWEST && by_hand >= 100, "only {} and {} cases", of_rust, by_hand);
+    println!("{} answers of the Rust, {} of the rules in mixed modes and {} by hand, all the same", of_rust, of_rules, by_hand);
+    assert!(of_rust >= 3_000 && of_rules >= 800 && by_hand >= 200, "only {}, {} and {} cases", of_rust, of_rules, by_hand);
 }
 
 #[test]
 fn a_room_reads_what_the_cases_say() {
-    let cases = cases();
-    let mut shared = Room::new();
-    let (mut compared, mut grown) = (0, 0);
-    for case in &cases {
-        compare_room(&mut Room::new(), case);
-        compare_room(&mut shared, case);
+    let mut shared = Mode::ALL.map(room_in);
+    let (mut compared, mut grown, mut strict) = (0, 0, 0);
+    for case in &cases() {
+        match case.known_mode() {
+            Some(mode) => {
+                compare_room(&mut room_in(mode), mode, case);
+                compare_room(&mut shared[mode as usize], mode, case);
+                strict += usize::from(mode == Mode::Strict);
+            }
+            // A room has no such mode to give; that the archive answers so is for the test above.
+            None => assert_eq!(case.answer, [36, 0, 0, 0, 0], "line {}", case.line),
+        }
         match case.answer[0] {
             32..=35 => grown += 1,
+            36 => {}
             _ => compared += 1,
         }
     }
-    println!("{} cases compared, {} more whose own tables were too small", compared, grown);
+    println!("{} cases compared, {} more whose own tables were too small; {} of them all are strict", compared, grown, strict);
     assert!(compared + grown >= FEWEST && grown >= 200, "only {} and {} cases", compared, grown);
+    assert!(strict >= FEWEST_STRICT, "only {} strict cases", strict);
 }
 
 /// A room's tables are always large enough, so it answers like the archive with such tables; where the case's own were, that
 /// has to be the case's answer.
-fn compare_room(room: &mut Room, case: &Case) {
-    let (answer, lists) = case.call_with_enough();
+fn compare_room(room: &mut Room, mode: Mode, case: &Case) {
+    let (answer, lists) = case.call_with_enough(mode);
     match case.answer[0] {
         number @ 32..=34 => {
             let table = usize::try_from(number - 32).expect("0, 1 or 2");

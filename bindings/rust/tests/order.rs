@@ -4,7 +4,7 @@
 mod common;
 
 use common::Source;
-use simmerotter::raw;
+use simmerotter::{raw, Mode};
 
 const GUARD: u32 = 0xdead_beef;
 const GUARDS: usize = 64;
@@ -69,8 +69,13 @@ impl Call {
     }
 
     fn file(text: &[u8], tokens: &[u32], lengths: [usize; 4]) -> Call {
+        Call::file_in(Mode::Lenient.number(), text, tokens, lengths)
+    }
+
+    fn file_in(mode: u32, text: &[u8], tokens: &[u32], lengths: [usize; 4]) -> Call {
         let mut call = Call::new(lengths);
         call.answer = raw::read_file(
+            mode,
             text,
             tokens,
             call.kept.lent(),
@@ -82,8 +87,13 @@ impl Call {
     }
 
     fn body(text: &[u8], tokens: &[u32], start: usize, lengths: [usize; 4]) -> Call {
+        Call::body_in(Mode::Lenient.number(), text, tokens, start, lengths)
+    }
+
+    fn body_in(mode: u32, text: &[u8], tokens: &[u32], start: usize, lengths: [usize; 4]) -> Call {
         let mut call = Call::new(lengths);
-        call.answer = raw::read_body(text, tokens, start, call.kept.lent(), call.statements.lent(), call.arguments.lent());
+        let (kept, statements, arguments) = (call.kept.lent(), call.statements.lent(), call.arguments.lent());
+        call.answer = raw::read_body(mode, text, tokens, start, kept, statements, arguments);
         assert!(call.definitions.is_untouched());
         call.checked()
     }
@@ -94,7 +104,7 @@ impl Call {
         self
     }
 
-    /// After 30, 31 and 35 nothing lent has changed.
+    /// After 30, 31, 35 and 36 nothing lent has changed.
     fn assert_untouched(&self) {
         assert!(self.kept.is_untouched() && self.definitions.is_untouched());
         assert!(self.statements.is_untouched() && self.arguments.is_untouched());
@@ -270,5 +280,54 @@ fn the_start_arrives_whole() {
         let call = Call::body(&source.text, &source.tokens, start, BODY_EXACT);
         assert_eq!(call.answer, [1, start as u64, 0, 0, 0]);
         call.assert_cleared(KEPT_COUNT);
+    }
+}
+
+#[test]
+fn the_mode_arrives_whole() {
+    let source = source();
+    for mode in Mode::ALL {
+        let file = Call::file_in(mode.number(), &source.text, &source.tokens, EXACT);
+        assert_eq!(file.answer, [0, 36, 3, 4, 5]);
+        let body = Call::body_in(mode.number(), &source.text, &source.tokens, BODY_START, BODY_EXACT);
+        assert_eq!(body.answer, [0, 36, 4, 2, u64::from(NONE)]);
+    }
+    for mode in [2, 3, 0x100, 0x101, 0x1_0000, 0x8000_0000, u32::MAX] {
+        let file = Call::file_in(mode, &source.text, &source.tokens, EXACT);
+        let body = Call::body_in(mode, &source.text, &source.tokens, BODY_START, BODY_EXACT);
+        for call in [file, body] {
+            assert_eq!(call.answer, [36, 0, 0, 0, 0]);
+            call.assert_untouched();
+        }
+    }
+}
+
+/// The list is not well formed, the kept list is too short and the start lies outside: each has its number, behind 36.
+#[test]
+fn an_unknown_mode_comes_before_every_other_refusal() {
+    let source = source();
+    for tokens in [&source.tokens[..], &source.tokens[1..], &[]] {
+        let file = Call::file_in(2, &source.text, tokens, [0; 4]);
+        let body = Call::body_in(2, &source.text, tokens, usize::MAX, [0; 4]);
+        assert_eq!((file.answer, body.answer), ([36, 0, 0, 0, 0], [36, 0, 0, 0, 0]));
+    }
+}
+
+#[test]
+fn a_repeated_label_is_refused_behind_the_kept_list_and_before_the_tables() {
+    let strict = Mode::Strict.number();
+    let body = Source::of_lines(&["{ ~a : ~b : ~a : }"]);
+    let read = |lengths| Call::body_in(strict, &body.text, &body.tokens, 0, lengths);
+    assert_eq!(read([8, 17, 24, 7]).answer, [35, 9, 0, 0, 0]);
+    let file = Source::of_lines(&["#define macro M ( ) = { ~a : ~a : }"]);
+    for tables in [[17, 25, 8], [0, 0, 0]] {
+        let [definitions, statements, arguments] = tables;
+        let call = read([9, definitions, statements, arguments]);
+        assert_eq!(call.answer, [22, 5, 0, 0, 0]);
+        call.assert_cleared(9);
+        let call = Call::file_in(strict, &file.text, &file.tokens, [14, definitions, statements, arguments]);
+        assert_eq!(call.answer, [22, 9, 0, 0, 0]);
+        call.assert_cleared(13);
+        assert!(call.definitions.is_zero());
     }
 }

@@ -2,8 +2,8 @@
 
 mod common;
 
-use common::{cases, Case, Lists, Source};
-use simmerotter::Room;
+use common::{cases, room_in, Case, Lists, Source};
+use simmerotter::{Mode, Room};
 use std::sync::{Arc, Barrier};
 use std::thread;
 
@@ -51,11 +51,15 @@ fn compare(cases: &[Case], alone: &[Left], offset: usize) -> usize {
         .count()
 }
 
-/// More than 1,536 kept tokens: the archive then takes its large table of names.
-fn many_macros() -> Source {
+/// The beginning of a file. It has more than 12,288 kept tokens: the archive then takes its largest table of names.
+fn macros() -> Source {
     let mut source = Source::new();
     (0..2_000).for_each(|number| source.line(&format!("#define macro M{} ( ) = {{ }}", number)));
-    source.end().without_space()
+    source
+}
+
+fn many_macros() -> Source {
+    macros().end().without_space()
 }
 
 #[test]
@@ -73,13 +77,34 @@ fn large_files_are_read_at_once() {
     assert_eq!(names(&source).len(), 2_000);
 }
 
-/// A call takes up to about 100 KB, and what the thread does besides comes on top. Half a megabyte has to do for both, or the
-/// thread would end by a fault.
+/// A lenient call takes up to about 60 KB, and what the thread does besides comes on top. Half a megabyte has to do for both, or
+/// the thread would end by a fault.
 #[test]
 fn half_a_megabyte_of_stack_suffices() {
     let source = many_macros();
     let thread = thread::Builder::new().stack_size(512 * 1024).spawn(move || names(&source).len());
     assert_eq!(thread.expect("a thread").join().expect("its answer"), 2_000);
+}
+
+/// A body of more than 8,192 tokens has the largest table of labels, which strict reading takes besides that of names.
+fn many_macros_and_labels() -> Source {
+    let mut source = macros();
+    source.line("#define macro LAST ( ) = {");
+    (0..10_000).for_each(|number| source.line(&format!("~l{} :", number)));
+    source.line("}");
+    source.end().without_space()
+}
+
+/// A strict call takes up to about 260 KB.
+#[test]
+fn a_megabyte_of_stack_suffices_in_strict_mode() {
+    let source = many_macros_and_labels();
+    let read = move || {
+        let mut room = room_in(Mode::Strict);
+        room.read_file(&source.text, &source.tokens).map(|file| file.all_statements().count())
+    };
+    let thread = thread::Builder::new().stack_size(1024 * 1024).spawn(read);
+    assert_eq!(thread.expect("a thread").join().expect("its answer"), Ok(10_000));
 }
 
 fn names(source: &Source) -> Vec<Vec<u8>> {

@@ -70,6 +70,13 @@ impl Input {
         self.without_folder(&run.out)
     }
 
+    /// What a run that was accepted with a warning tells a person: both outputs, without the folder's name.
+    pub fn warned(&self, options: &[&str]) -> (String, String) {
+        let run = self.run(options);
+        assert_eq!(run.status, Some(0), "{}", run.err);
+        (self.without_folder(&run.out), self.without_folder(&run.err))
+    }
+
     fn without_folder(&self, printed: &str) -> String {
         printed.replace(&format!("{}/", env!("CARGO_TARGET_TMPDIR")), "")
     }

@@ -40,7 +40,7 @@ fn has_room(line: Line, sizes: Sizes) -> bool {
         && sizes.arguments as usize <= ARGUMENTS_ROOM
 }
 
-// Asks the entry of the case's mode, with each list lent as long as the case says.
+// Asks the case's entry in its mode, with each list lent as long as the case says.
 fn ask(
     line: Line,
     sizes: Sizes,
@@ -56,6 +56,7 @@ fn ask(
     let tokens = tokens_of(numbers, line.numbers);
     if line.body {
         simmerotter_read_body(
+            sizes.mode,
             text,
             tokens,
             sizes.start as usize,
@@ -67,6 +68,7 @@ fn ask(
         return;
     }
     simmerotter_read_file(
+        sizes.mode,
         text,
         tokens,
         lent(kept, sizes.kept),

@@ -6,8 +6,9 @@ use crate::room::least;
 // What every lent word holds before the call, so that a word left alone can be told from one written.
 const FILLER: u32 = 2779096485;
 
-// The numbers before the words, in the order in which a line has them: a body's place, and the lengths of the four lists.
+// The numbers before the words, in the order in which a line has them: the call's mode, a body's place, and the lengths of the four lists.
 pub struct Sizes {
+    pub mode: u32,
     pub start: u32,
     pub kept: u32,
     pub definitions: u32,
@@ -17,11 +18,12 @@ pub struct Sizes {
 
 pub fn sizes_of(numbers: &[u32; NUMBERS_ROOM]) -> Sizes {
     Sizes {
-        start: numbers[0],
-        kept: numbers[1],
-        definitions: numbers[2],
-        statements: numbers[3],
-        arguments: numbers[4],
+        mode: numbers[0],
+        start: numbers[1],
+        kept: numbers[2],
+        definitions: numbers[3],
+        statements: numbers[4],
+        arguments: numbers[5],
     }
 }
 

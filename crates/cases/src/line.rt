@@ -5,10 +5,10 @@ use crate::room::TEXT_ROOM;
 use tokens::digit_value;
 use tokens::is_hex;
 
-// Where in a line its next byte stands: at MODE, in the five numbers from START to ARGS, in TEXT, in WORDS. An END is behind MODE's letter or behind a `-`.
-const MODE: usize = 0;
+// Where in a line its next byte stands: at ENTRY, in the six numbers from MODE to ARGS, in TEXT, in WORDS. An END is behind ENTRY's letter or behind a `-`.
+const ENTRY: usize = 0;
 
-const MODE_END: usize = 1;
+const ENTRY_END: usize = 1;
 
 const NUMBERS: usize = 2;
 
@@ -34,7 +34,7 @@ pub struct Line {
     pub place: usize,
     // Its end has been read.
     pub whole: bool,
-    // MODE is B.
+    // ENTRY is B.
     pub body: bool,
     // How many digits of the present number, or of the present byte of the text, have been read, and what they write.
     pub digits: usize,
@@ -48,7 +48,7 @@ pub struct Line {
 
 pub fn new_line() -> Line {
     Line {
-        place: MODE,
+        place: ENTRY,
         whole: false,
         body: false,
         digits: 0,
@@ -69,8 +69,8 @@ fn refused(line: Line) -> Line {
 }
 
 // F or B.
-fn read_mode(mut line: Line, byte: u8) -> Line {
-    line.place = MODE_END;
+fn read_entry(mut line: Line, byte: u8) -> Line {
+    line.place = ENTRY_END;
     if byte == b'F' {
         return line;
     }
@@ -81,7 +81,7 @@ fn read_mode(mut line: Line, byte: u8) -> Line {
     refused(line)
 }
 
-// The one space behind MODE's letter, or behind the text's `-`.
+// The one space behind ENTRY's letter, or behind the text's `-`.
 fn read_space(line: Line, byte: u8, next: usize) -> Line {
     if byte == b' ' {
         return at_place(line, next);
@@ -130,7 +130,7 @@ fn keep_number(mut line: Line, numbers: &mut [u32; NUMBERS_ROOM]) -> Line {
     line
 }
 
-// Five numbers, each with a space behind it.
+// Six numbers, each with a space behind it.
 fn read_numbers(line: Line, byte: u8, numbers: &mut [u32; NUMBERS_ROOM]) -> Line {
     if byte != b' ' {
         return read_digit(line, byte);
@@ -234,8 +234,8 @@ pub fn read_byte(
     }
     let place = line.place;
     match place {
-        MODE => read_mode(line, byte),
-        MODE_END => read_space(line, byte, NUMBERS),
+        ENTRY => read_entry(line, byte),
+        ENTRY_END => read_space(line, byte, NUMBERS),
         NUMBERS => read_numbers(line, byte, numbers),
         TEXT => read_text(line, byte, text),
         TEXT_END => read_space(line, byte, WORDS),

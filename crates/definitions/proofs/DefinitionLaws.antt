@@ -16,7 +16,7 @@ use Rattle.tokens.proofs.LentLaws.{putAll-append}
 use Rattle.grammar.specs.Reading.{Argument}
 use Rattle.grammar.specs.Result.{Why, plain, Res, got, bad, Step, refuse, taken, stepped, oneMore, choose, counted, joined, expect, seq}
 use Rattle.grammar.specs.Typed.{typedArgument}
-use Rattle.grammar.specs.Rules.{base}
+use Rattle.grammar.specs.Rules.{Rules}
 use Rattle.grammar.specs.Records.{argumentRecord}
 use Rattle.grammar.specs.FileReading.{Value, literalAt, pointerAt, Form, anImport, aFunction, anEvent, anError, aDefinedConstant, aMacro, aTable, Definition}
 use Rattle.grammar.specs.FileReader.{named, parseArgs, functionType, functionRest, parseImports, constantValue, constantRest, parseConstant, byKind, kindTable, topTable, parseDefinition, topLevel}
@@ -487,21 +487,21 @@ module _ (all : List Token) (p : ℕ) where
   by-none table y k e h = by-kind table y k e ∙ ap (λ f. f p (drop p all)) (choose-none table (λ q us. bad y q) k h)
 
   -- at top level
-  pub top-at : (k : ℕ) → tokenAt all p .kind ≡ k → topLevel base p (drop p all) ≡ choose (topTable base) (λ q us. bad (plain 1) q) k p (drop p all)
+  pub top-at : (rules : Rules) (k : ℕ) → tokenAt all p .kind ≡ k → topLevel rules p (drop p all) ≡ choose (topTable rules) (λ q us. bad (plain 1) q) k p (drop p all)
   unfolding topLevel
-  top-at k e = by-kind (topTable base) (plain 1) k e
+  top-at rules k e = by-kind (topTable rules) (plain 1) k e
 
-  pub top-none : (k : ℕ) → tokenAt all p .kind ≡ k → NoneOf (topTable base) k → topLevel base p (drop p all) ≡ bad (plain 1) p
+  pub top-none : (rules : Rules) (k : ℕ) → tokenAt all p .kind ≡ k → NoneOf (topTable rules) k → topLevel rules p (drop p all) ≡ bad (plain 1) p
   unfolding topLevel
-  top-none k e h = by-none (topTable base) (plain 1) k e h
+  top-none rules k e h = by-none (topTable rules) (plain 1) k e h
 
   -- behind Define
-  pub defined : tokenAt all p .kind ≡ Define → topLevel base p (drop p all) ≡ oneMore (byKind (kindTable base p) (plain 2) (p + 1) (drop (p + 1) all))
+  pub defined : (rules : Rules) → tokenAt all p .kind ≡ Define → topLevel rules p (drop p all) ≡ oneMore (byKind (kindTable rules p) (plain 2) (p + 1) (drop (p + 1) all))
   unfolding parseDefinition choose
-  defined e =
-      top-at Define e
-      ∙ expect-yes p all Define (plain 1) (λ d. byKind (kindTable base p) (plain 2)) e
-      ∙ ap (λ q. oneMore (byKind (kindTable base p) (plain 2) q (drop q all))) (sym (add-one p))
+  defined rules e =
+      top-at rules Define e
+      ∙ expect-yes p all Define (plain 1) (λ d. byKind (kindTable rules p) (plain 2)) e
+      ∙ ap (λ q. oneMore (byKind (kindTable rules p) (plain 2) q (drop q all))) (sym (add-one p))
 
 -- ---- its record
 

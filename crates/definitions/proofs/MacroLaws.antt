@@ -17,7 +17,7 @@ use Rattle.tokens.specs.Kind.{Macro, Fn, Test, Takes, Returns, Assign, OpenPare
 use Rattle.tokens.proofs.Laws.{lt-or-le}
 use Rattle.tokens.proofs.LentLaws.{putAll-append}
 use Rattle.grammar.specs.Reading.{Argument, Reading}
-use Rattle.grammar.specs.Rules.{base}
+use Rattle.grammar.specs.Rules.{Rules}
 use Rattle.grammar.specs.Result.{plain, number, Res, got, bad, on, refuse, leave, stepped, oneMore, Step, choose, expect, counted, seq}
 use Rattle.grammar.specs.Reader.{entries, closedList, nameArgument, items, groups, bodyFrom}
 use Rattle.grammar.specs.Typed.{singleNumber}
@@ -246,8 +246,8 @@ numbers-stops (got n k) h = absurd (let z : _≡_ {A = ℕ} 0 1 = cc (h .is) in 
 numbers-stops (bad y w) h = record { why = y; place = w; is = refl; numbered = (cc (h .is)); cursor = (cc (h .is)) }
 
 -- the body behind both numbers
-abbrev bodyBehind : ℕ × ℕ → ℕ → List Token → Res ((ℕ × ℕ) × Reading)
-bodyBehind n = seq (bodyFrom base) (λ r q ts. got (n, r) 0)
+abbrev bodyBehind : Rules → ℕ × ℕ → ℕ → List Token → Res ((ℕ × ℕ) × Reading)
+bodyBehind rules n = seq (bodyFrom rules) (λ r q ts. got (n, r) 0)
 
 progress-is : (y : Progress) {p m n : ℕ} → y .at ≡ p → y .statements ≡ m → y .arguments ≡ n → y ≡ record { at = p; statements = m; arguments = n }
 progress-is y e f g = rw (← e, ← f, ← g)
@@ -256,39 +256,39 @@ progress-is y e f g = rw (← e, ← f, ← g)
 abbrev pub start : ℕ → ℕ → Progress
 start e n = record { at = e; statements = 0; arguments = n }
 
-module _ {n q i a size : ℕ} {st ar st′ ar′ : List ℕ} (all : List Token) where
+module _ (rules : Rules) {n q i a size : ℕ} {st ar st′ ar′ : List ℕ} (all : List Token) where
   tail-refused : {c w : ℕ} {x : Res ((ℕ × ℕ) × Reading)} → RefusedRead x c w → TailParsed n q i a size x st ar (tails.Refused c w) st′ ar′
   tail-refused s = rw (s .is, s .numbered, s .cursor) (record { is = refl; statementsHold = tt; argumentsHold = tt; within = tt })
 
   pub numbers-are-refused : {c w : ℕ} → NumbersRead q size (numbersFrom q (drop q all)) (numbers.Refused c w)
-      → TailParsed n q i a size (tailFrom q (drop q all)) st ar (tails.Refused c w) st′ ar′
+      → TailParsed n q i a size (tailFrom rules q (drop q all)) st ar (tails.Refused c w) st′ ar′
   unfolding tailFrom
-  numbers-are-refused h = tail-refused (seq-stops numbersFrom bodyBehind q (drop q all) (numbers-stops _ h))
+  numbers-are-refused h = tail-refused (seq-stops numbersFrom (bodyBehind rules) q (drop q all) (numbers-stops _ h))
 
   module _ {t r e : ℕ} (h : NumbersRead q size (numbersFrom q (drop q all)) (numbers.Done t r e)) where
-    pub body-is-refused : {s : Progress} {c w : ℕ} → BodyParsed s i a size (bodyFrom base e (drop e all)) st ar (items.Refused c w) st′ ar′
-        → TailParsed n q i a size (tailFrom q (drop q all)) st ar (tails.Refused c w) st′ ar′
+    pub body-is-refused : {s : Progress} {c w : ℕ} → BodyParsed s i a size (bodyFrom rules e (drop e all)) st ar (items.Refused c w) st′ ar′
+        → TailParsed n q i a size (tailFrom rules q (drop q all)) st ar (tails.Refused c w) st′ ar′
     unfolding tailFrom
     body-is-refused k =
         let g = numbers-got _ h in
         tail-refused
-        (seq-then-stops numbersFrom bodyBehind q all (g .is) (g .ends)
-        (seq-stops (bodyFrom base) (λ b x ts. got ((t, r), b) 0) e (drop e all) (body-stops _ k)))
+        (seq-then-stops numbersFrom (bodyBehind rules) q all (g .is) (g .ends)
+        (seq-stops (bodyFrom rules) (λ b x ts. got ((t, r), b) 0) e (drop e all) (body-stops _ k)))
 
-    pub tail-read : {y : Progress} → BodyParsed (start e n) i a size (bodyFrom base e (drop e all)) st ar (items.Done y) st′ ar′
-        → TailParsed n q i a size (tailFrom q (drop q all)) st ar (tails.Done t r y) st′ ar′
+    pub tail-read : {y : Progress} → BodyParsed (start e n) i a size (bodyFrom rules e (drop e all)) st ar (items.Done y) st′ ar′
+        → TailParsed n q i a size (tailFrom rules q (drop q all)) st ar (tails.Done t r y) st′ ar′
     unfolding tailFrom
     tail-read {y} k = go (numbers-got _ h) (body-got _ k)
       where
-        go : NumbersGot q (numbersFrom q (drop q all)) t r e → BodyGot (start e n) i a (bodyFrom base e (drop e all)) st ar y st′ ar′
-            → TailParsed n q i a size (tailFrom q (drop q all)) st ar (tails.Done t r y) st′ ar′
+        go : NumbersGot q (numbersFrom q (drop q all)) t r e → BodyGot (start e n) i a (bodyFrom rules e (drop e all)) st ar y st′ ar′
+            → TailParsed n q i a size (tailFrom rules q (drop q all)) st ar (tails.Done t r y) st′ ar′
         go g b =
             let w = k .within in
             let place : y .at ≡ q + (g .size + (b .size + 0)) = omega (arith, g .ends, b .ends) in
             let count : y .statements ≡ statementCount (b .value) = b .statements ∙ zero-add (statementCount (b .value)) in
             rw
-            (seq-at numbersFrom bodyBehind q all (g .is) (g .ends)
-            ∙ ap (counted (g .size)) (seq-at (bodyFrom base) (λ b x ts. got ((t, r), b) 0) e all (b .is) (b .ends)))
+            (seq-at numbersFrom (bodyBehind rules) q all (g .is) (g .ends)
+            ∙ ap (counted (g .size)) (seq-at (bodyFrom rules) (λ b x ts. got ((t, r), b) 0) e all (b .is) (b .ends)))
             (record {
               is = ap (tails.Done t r) (progress-is y place count (b .arguments));
               statementsHold = b .statementsHold ∙ rw (add-zero i) refl;
@@ -298,23 +298,23 @@ module _ {n q i a size : ℕ} {st ar st′ ar′ : List ℕ} (all : List Token) 
 
 -- ---- the whole
 
-abbrev behindEquals : MacroSort → List Argument → ℕ → List Token → Res Form
-behindEquals sort args =
+abbrev behindEquals : Rules → MacroSort → List Argument → ℕ → List Token → Res Form
+behindEquals rules sort args =
     seq (optional Takes singleNumber 0) (λ takes.
-    seq (optional Returns singleNumber 0) (λ returns. seq (bodyFrom base) (λ r q ts. got (aMacro sort args takes returns r) 0)))
+    seq (optional Returns singleNumber 0) (λ returns. seq (bodyFrom rules) (λ r q ts. got (aMacro sort args takes returns r) 0)))
 
 -- a macro's form, of what the two parts of its reading gave
 abbrev composed : MacroSort → List Argument → ((ℕ × ℕ) × Reading) → ℕ → List Token → Res Form
 composed sort args x q ts = got (aMacro sort args (x .0 .0) (x .0 .1) (x .1)) 0
 
 -- both numbers and the body, read one by one, are the tail
-tail-group : (sort : MacroSort) (args : List Argument) (p : ℕ) (ts : List Token) → seq tailFrom (composed sort args) p ts ≡ behindEquals sort args p ts
+tail-group : (rules : Rules) (sort : MacroSort) (args : List Argument) (p : ℕ) (ts : List Token) → seq (tailFrom rules) (composed sort args) p ts ≡ behindEquals rules sort args p ts
 unfolding tailFrom numbersFrom
-tail-group sort args p ts =
-    seq-group numbersFrom bodyBehind (composed sort args) p ts
-    ∙ seq-same numbersFrom (λ n. seq (bodyBehind n) (composed sort args)) last p ts
-    (λ n q us. seq-group (bodyFrom base) (λ r q ts. got (n, r) 0) (composed sort args) q us
-    ∙ seq-same (bodyFrom base) (λ r. seq (λ q ts. got (n, r) 0) (composed sort args)) (λ r. composed sort args (n, r)) q us
+tail-group rules sort args p ts =
+    seq-group numbersFrom (bodyBehind rules) (composed sort args) p ts
+    ∙ seq-same numbersFrom (λ n. seq (bodyBehind rules n) (composed sort args)) last p ts
+    (λ n q us. seq-group (bodyFrom rules) (λ r q ts. got (n, r) 0) (composed sort args) q us
+    ∙ seq-same (bodyFrom rules) (λ r. seq (λ q ts. got (n, r) 0) (composed sort args)) (λ r. composed sort args (n, r)) q us
     (λ r x vs. seq-nothing (n, r) (composed sort args) x vs))
     ∙ seq-group (optional Takes singleNumber 0) second last p ts
     ∙ seq-same (optional Takes singleNumber 0) (λ t. seq (second t) last) (λ t. seq (optional Returns singleNumber 0) (λ r. last (t, r))) p ts
@@ -322,24 +322,24 @@ tail-group sort args p ts =
     ∙ seq-same (optional Returns singleNumber 0) (λ r. seq (λ q ts. got (t, r) 0) last) (λ r. last (t, r)) q us (λ r x vs. seq-nothing (t, r) last x vs))
   where
     last : ℕ × ℕ → ℕ → List Token → Res Form
-    last n = seq (bodyFrom base) (λ r. composed sort args (n, r))
+    last n = seq (bodyFrom rules) (λ r. composed sort args (n, r))
 
 -- the list and `=`, read one by one, are the head
-head-group : (sort : MacroSort) (p : ℕ) (ts : List Token) → seq headFrom (behindEquals sort) p ts ≡ macroRest base sort p ts
+head-group : (rules : Rules) (sort : MacroSort) (p : ℕ) (ts : List Token) → seq headFrom (behindEquals rules sort) p ts ≡ macroRest rules sort p ts
 unfolding headFrom macroRest
-head-group sort p ts =
-    seq-group (parseArgs nameArgument) equals (behindEquals sort) p ts
-    ∙ seq-same (parseArgs nameArgument) (λ args. seq (equals args) (behindEquals sort)) (λ args. expect Assign (plain 1) (λ a. behindEquals sort args)) p ts
-    (λ args q us. expect-group Assign (plain 1) (λ a q ts. got args 0) (behindEquals sort) (λ a. behindEquals sort args) q us
-    (λ t x vs. seq-nothing args (behindEquals sort) x vs))
+head-group rules sort p ts =
+    seq-group (parseArgs nameArgument) equals (behindEquals rules sort) p ts
+    ∙ seq-same (parseArgs nameArgument) (λ args. seq (equals args) (behindEquals rules sort)) (λ args. expect Assign (plain 1) (λ a. behindEquals rules sort args)) p ts
+    (λ args q us. expect-group Assign (plain 1) (λ a q ts. got args 0) (behindEquals rules sort) (λ a. behindEquals rules sort args) q us
+    (λ t x vs. seq-nothing args (behindEquals rules sort) x vs))
 
 -- `{` and `}`
-body-least : AtLeast 2 (bodyFrom base)
+body-least : (rules : Rules) → AtLeast 2 (bodyFrom rules)
 unfolding bodyFrom
-body-least =
+body-least rules =
     expect-least 1 OpenBrace (plain 1) _ (λ o.
     seq-least 0 1 (items true 5) _ (any-least (items true 5)) (λ is.
-    seq-least 0 1 (groups base) _ (any-least (groups base)) (λ gs. expect-least 0 CloseBrace (plain 5) _ (λ c p ts. zero-le))))
+    seq-least 0 1 (groups rules) _ (any-least (groups rules)) (λ gs. expect-least 0 CloseBrace (plain 5) _ (λ c p ts. zero-le))))
 
 -- `(` and `)`
 args-least : AtLeast 2 (parseArgs nameArgument)
@@ -349,13 +349,13 @@ args-least =
     seq-least 0 1 (entries nameArgument) _ (any-least (entries nameArgument)) (λ es. expect-least 0 CloseParen (plain 1) _ (λ c p ts. zero-le)))
 
 -- behind its name a macro takes these and `=`
-macro-least : (sort : MacroSort) → AtLeast 5 (macroRest base sort)
+macro-least : (rules : Rules) (sort : MacroSort) → AtLeast 5 (macroRest rules sort)
 unfolding macroRest
-macro-least sort =
+macro-least rules sort =
     seq-least 2 3 (parseArgs nameArgument) _ args-least (λ args.
     expect-least 2 Assign (plain 1) _ (λ a.
     seq-least 0 2 (optional Takes singleNumber 0) _ (any-least (optional Takes singleNumber 0)) (λ takes.
-    seq-least 0 2 (optional Returns singleNumber 0) _ (any-least (optional Returns singleNumber 0)) (λ returns. seq-least 2 0 (bodyFrom base) _ body-least (λ r p ts. zero-le)))))
+    seq-least 0 2 (optional Returns singleNumber 0) _ (any-least (optional Returns singleNumber 0)) (λ returns. seq-least 2 0 (bodyFrom rules) _ (body-least rules) (λ r p ts. zero-le)))))
 
 -- what the tail's answer tells
 record TailGot (n q i a : ℕ) (x : Res ((ℕ × ℕ) × Reading)) (st ar : List ℕ) (takes returns : ℕ) (t : Progress) (st′ ar′ : List ℕ) : Type 0 where
@@ -400,50 +400,50 @@ macro-named : (k : ℕ) → MacroKind k → isNamed k ≡ true
 unfolding isNamed
 macro-named k h = ⊎-elim (λ (e : k ≡ 6). rw e) (⊎-elim (λ (e : k ≡ 7). rw e) (λ (e : k ≡ 8). rw e)) (which k h)
 
-module _ (kind first name p : ℕ) (all : List Token) where
+module _ (rules : Rules) (kind first name p : ℕ) (all : List Token) where
   -- a macro by the two parts of its reading
   parts-read : (sort : MacroSort) (args : List Argument) (m q k : ℕ) (x : (ℕ × ℕ) × Reading)
-      → headFrom p (drop p all) ≡ got args m → p + m ≡ q → tailFrom q (drop q all) ≡ got x k
-      → macroRest base sort p (drop p all) ≡ got (aMacro sort args (x .0 .0) (x .0 .1) (x .1)) (m + (k + 0))
+      → headFrom p (drop p all) ≡ got args m → p + m ≡ q → tailFrom rules q (drop q all) ≡ got x k
+      → macroRest rules sort p (drop p all) ≡ got (aMacro sort args (x .0 .0) (x .0 .1) (x .1)) (m + (k + 0))
   parts-read sort args m q k x h ends t =
-      sym (head-group sort p (drop p all))
-      ∙ seq-at headFrom (behindEquals sort) p all h ends
-      ∙ ap (counted m) (sym (tail-group sort args q (drop q all)) ∙ seq-at tailFrom (composed sort args) q all t refl)
+      sym (head-group rules sort p (drop p all))
+      ∙ seq-at headFrom (behindEquals rules sort) p all h ends
+      ∙ ap (counted m) (sym (tail-group rules sort args q (drop q all)) ∙ seq-at (tailFrom rules) (composed sort args) q all t refl)
 
   module _ {i a size : ℕ} {st ar ar₁ st′ ar′ : List ℕ} where
     pub head-is-refused : (sort : MacroSort) {c q : ℕ} → ListRead 0 p size (headFrom p (drop p all)) ar (lists.Refused c q) ar₁
-        → DefParsed 5 all p i a size (behindName first name all (macroRest base sort) p) st ar (defs.Refused c q) st′ ar′
+        → DefParsed 5 all p i a size (behindName first name all (macroRest rules sort) p) st ar (defs.Refused c q) st′ ar′
     unfolding behindName
     head-is-refused sort h =
         refused-parsed
-        (seq-stops (macroRest base sort) (formed first name all) p (drop p all)
-        (as-stops (sym (head-group sort p (drop p all))) (seq-stops headFrom (behindEquals sort) p (drop p all) (list-stops _ h))))
+        (seq-stops (macroRest rules sort) (formed first name all) p (drop p all)
+        (as-stops (sym (head-group rules sort p (drop p all))) (seq-stops headFrom (behindEquals rules sort) p (drop p all) (list-stops _ h))))
         refl
 
     module _ {n q : ℕ} (h : ListRead 0 p size (headFrom p (drop p all)) ar (lists.Done n q) ar₁) where
-      pub tail-is-refused : (sort : MacroSort) {c w : ℕ} → TailParsed n q i a size (tailFrom q (drop q all)) st ar₁ (tails.Refused c w) st′ ar′
-          → DefParsed 5 all p i a size (behindName first name all (macroRest base sort) p) st ar (defs.Refused c w) st′ ar′
+      pub tail-is-refused : (sort : MacroSort) {c w : ℕ} → TailParsed n q i a size (tailFrom rules q (drop q all)) st ar₁ (tails.Refused c w) st′ ar′
+          → DefParsed 5 all p i a size (behindName first name all (macroRest rules sort) p) st ar (defs.Refused c w) st′ ar′
       unfolding behindName
       tail-is-refused sort t =
           let g = list-got _ h in
           refused-parsed
-          (seq-stops (macroRest base sort) (formed first name all) p (drop p all)
-          (as-stops (sym (head-group sort p (drop p all)))
-          (seq-then-stops headFrom (behindEquals sort) p all (g .is) (g .ends)
-          (as-stops (sym (tail-group sort (g .args) q (drop q all)))
-          (seq-stops tailFrom (composed sort (g .args)) q (drop q all) (tail-stops _ t))))))
+          (seq-stops (macroRest rules sort) (formed first name all) p (drop p all)
+          (as-stops (sym (head-group rules sort p (drop p all)))
+          (seq-then-stops headFrom (behindEquals rules sort) p all (g .is) (g .ends)
+          (as-stops (sym (tail-group rules sort (g .args) q (drop q all)))
+          (seq-stops (tailFrom rules) (composed sort (g .args)) q (drop q all) (tail-stops _ t))))))
           refl
 
       -- the declared arguments come first, and the body's behind them
       pub macro-read : {takes returns : ℕ} {t : Progress} {r : DefRead} → name ≤ p → MacroKind kind
-          → TailParsed n q i a size (tailFrom q (drop q all)) st ar₁ (tails.Done takes returns t) st′ ar′
+          → TailParsed n q i a size (tailFrom rules q (drop q all)) st ar₁ (tails.Done takes returns t) st′ ar′
           → r ≡ defs.Done (macroOf kind first name n takes returns (t .at) (t .statements) i a) (t .arguments)
-          → DefParsed 5 all p i a size (behindName first name all (macroRest base (macroSort kind)) p) st ar r st′ ar′
+          → DefParsed 5 all p i a size (behindName first name all (macroRest rules (macroSort kind)) p) st ar r st′ ar′
       unfolding behindName formCount formArguments formStatements argumentCount argumentRecords
       macro-read {takes} {returns} {t} {r} before k v is = go (list-got _ h) (tail-got _ v)
         where
-          go : ListGot p (headFrom p (drop p all)) ar n q ar₁ → TailGot n q i a (tailFrom q (drop q all)) st ar₁ takes returns t st′ ar′
-              → DefParsed 5 all p i a size (behindName first name all (macroRest base (macroSort kind)) p) st ar r st′ ar′
+          go : ListGot p (headFrom p (drop p all)) ar n q ar₁ → TailGot n q i a (tailFrom rules q (drop q all)) st ar₁ takes returns t st′ ar′
+              → DefParsed 5 all p i a size (behindName first name all (macroRest rules (macroSort kind)) p) st ar r st′ ar′
           go g b =
               let w = h .within in
               let u = v .within in
@@ -455,9 +455,9 @@ module _ (kind first name p : ℕ) (all : List Token) where
               let count : t .arguments ≡ length (args ++ allArguments x) = b .arguments ∙ rw (g .count) (sym (length-append args (allArguments x))) in
               let declared : n ≡ 0 + length (map argumentRecord args) = rw (zero-add, length-map) (g .count) in
               let parts = parts-read (macroSort kind) args m q (b .size) ((takes, returns), x) (g .is) (g .ends) (b .is) in
-              let long : 5 ≤ m + (b .size + 0) = rw parts at (macro-least (macroSort kind) p (drop p all)) in
+              let long : 5 ≤ m + (b .size + 0) = rw parts at (macro-least rules (macroSort kind) p (drop p all)) in
               let macro : isNamed kind ≡ true = macro-named kind k in
-              rw (seq-at (macroRest base (macroSort kind)) (formed first name all) p all parts refl)
+              rw (seq-at (macroRest rules (macroSort kind)) (formed first name all) p all parts refl)
               (record {
                 is = is ∙ rw (place, b .statements, count, g .count, sort-number kind k) refl;
                 statementsHold = b .statementsHold ∙ rw (g .count, add-zero (a + length args)) refl;
@@ -473,18 +473,18 @@ module _ (kind first name p : ℕ) (all : List Token) where
 
 -- ---- the first token
 
-module _ (first p : ℕ) (all : List Token) where
+module _ (rules : Rules) (first p : ℕ) (all : List Token) where
   abbrev macroTable : List (ℕ × Step Definition)
-  macroTable = (Macro, on (named first (macroRest base theMacro))) ∷ (Fn, on (named first (macroRest base theFn))) ∷ (Test, on (named first (macroRest base theTest))) ∷ []
+  macroTable = (Macro, on (named first (macroRest rules theMacro))) ∷ (Fn, on (named first (macroRest rules theFn))) ∷ (Test, on (named first (macroRest rules theTest))) ∷ []
 
   pub macro-opens : (k : ℕ) → tokenAt all p .kind ≡ k → MacroKind k
-      → parseMacro base first p (drop p all) ≡ oneMore (named first (macroRest base (macroSort k)) (suc p) (drop (suc p) all))
+      → parseMacro rules first p (drop p all) ≡ oneMore (named first (macroRest rules (macroSort k)) (suc p) (drop (suc p) all))
   unfolding parseMacro choose
   macro-opens k e h =
       look-table p all (λ t. macroTable) (λ t. refuse (plain 1)) k e
       ∙ ⊎-elim (λ (s : k ≡ 6). rw s) (⊎-elim (λ (s : k ≡ 7). rw s) (λ (s : k ≡ 8). rw s)) (which k h)
 
-  pub no-macro : (k : ℕ) → tokenAt all p .kind ≡ k → (MacroKind k → ⊥) → parseMacro base first p (drop p all) ≡ bad (plain 1) p
+  pub no-macro : (k : ℕ) → tokenAt all p .kind ≡ k → (MacroKind k → ⊥) → parseMacro rules first p (drop p all) ≡ bad (plain 1) p
   unfolding parseMacro
   no-macro k e h =
       look-else p all (λ t. macroTable) (λ t. refuse (plain 1)) k e
@@ -492,8 +492,8 @@ module _ (first p : ℕ) (all : List Token) where
       ∙ look-at (λ t. refuse (plain 1)) p all
 
   -- behind Define all three have one reader
-  pub macro-chosen : (k : ℕ) → tokenAt all p .kind ≡ k → MacroKind k → byKind (kindTable base first) (plain 2) p (drop p all) ≡ parseMacro base first p (drop p all)
+  pub macro-chosen : (k : ℕ) → tokenAt all p .kind ≡ k → MacroKind k → byKind (kindTable rules first) (plain 2) p (drop p all) ≡ parseMacro rules first p (drop p all)
   unfolding choose
   macro-chosen k e h =
-      by-kind all p (kindTable base first) (plain 2) k e
+      by-kind all p (kindTable rules first) (plain 2) k e
       ∙ ⊎-elim (λ (s : k ≡ 6). rw s) (⊎-elim (λ (s : k ≡ 7). rw s) (λ (s : k ≡ 8). rw s)) (which k h)

@@ -18,7 +18,7 @@ use Rattle.tokens.specs.Kind.{JumpTable, JumpTablePacked, CodeTable, Ident, Ope
 use Rattle.tokens.proofs.Laws.{lt-or-le, and-left}
 use Rattle.tokens.proofs.LentLaws.{put-length}
 use Rattle.tokens.proofs.TokenLaws.{view-kind, view-length, view-text}
-use Rattle.grammar.specs.Rules.{base}
+use Rattle.grammar.specs.Rules.{Rules}
 use Rattle.grammar.specs.Result.{plain, number, beyond, Res, got, bad, on, refuse, leave, taken, stepped, oneMore, Step, choose, expect, counted, consed, seq, many}
 use Rattle.grammar.specs.FileReading.{TableSort, jumpTable, packedTable, codeTable, TableEntry, Form, aTable, Definition, digitTotal, sizeOf}
 use Rattle.grammar.specs.FileGrammar.{entryAllowed, forgetEntry}
@@ -364,10 +364,10 @@ module _ (first p : ℕ) (all : List Token) where
       ∙ look-at (λ t. refuse (plain 1)) p all
 
   -- behind Define all three have one reader
-  pub table-chosen : (k : ℕ) → tokenAt all p .kind ≡ k → 13 ≤ k → k ≤ 15 → byKind (kindTable base first) (plain InvalidDefinition) p (drop p all) ≡ parseTable first p (drop p all)
+  pub table-chosen : (rules : Rules) (k : ℕ) → tokenAt all p .kind ≡ k → 13 ≤ k → k ≤ 15 → byKind (kindTable rules first) (plain InvalidDefinition) p (drop p all) ≡ parseTable first p (drop p all)
   unfolding choose
-  table-chosen k e l h =
-      by-kind all p (kindTable base first) (plain InvalidDefinition) k e
+  table-chosen rules k e l h =
+      by-kind all p (kindTable rules first) (plain InvalidDefinition) k e
       ∙ ⊎-elim (λ (s : k ≡ 13). rw s) (⊎-elim (λ (s : k ≡ 14). rw s) (λ (s : k ≡ 15). rw s)) (which k l h)
 
 -- what is past a macro and none of the four between is a table or behind it

@@ -8,7 +8,7 @@ use Rattle.tokens.specs.Number.{UnexpectedType, statementWidth, argumentWidth, 
 use Rattle.tokens.specs.Token.{Token}
 use Rattle.tokens.specs.Kind.{Macro, Fn, Test, Takes, Returns, Assign}
 use Rattle.grammar.specs.Reading.{Argument, Reading}
-use Rattle.grammar.specs.Rules.{base}
+use Rattle.grammar.specs.Rules.{Rules}
 use Rattle.grammar.specs.Result.{plain, number, beyond, Res, got, bad, expect, seq}
 use Rattle.grammar.specs.Reader.{nameArgument, bodyFrom}
 use Rattle.grammar.specs.Typed.{singleNumber}
@@ -67,9 +67,9 @@ headFrom = seq (parseArgs nameArgument) (λ args. expect Assign (plain Unexpecte
 
 -- ---- what stands behind `=`
 
--- both numbers and the body
-unfoldable pub tailFrom : ℕ → List Token → Res ((ℕ × ℕ) × Reading)
-tailFrom = seq numbersFrom (λ n. seq (bodyFrom base) (λ r q ts. got (n, r) 0))
+-- both numbers and the body, by a rule set
+unfoldable pub tailFrom : Rules → ℕ → List Token → Res ((ℕ × ℕ) × Reading)
+tailFrom m = seq numbersFrom (λ n. seq (bodyFrom m) (λ r q ts. got (n, r) 0))
 
 -- the words fit: n declared arguments, and a body that ends with the progress t
 pub record Declared (first name n : ℕ) (t : Progress) (i a : ℕ) : Type 0 where

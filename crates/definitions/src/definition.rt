@@ -1,7 +1,7 @@
 // Definitions: imports, functions, events, errors, and the choice among all of them.
 //
 // Each reader is lent only the rest of each table from the first free record: its own records go to number 0 on, and i and a are the numbers of statement
-// and argument records before. `first` is the place of Define or Include. What a reader has no records for, it is not lent.
+// and argument records before. `strict` is for bodies. `first` is the place of Define or Include. What a reader has no records for, it is not lent.
 use crate::constant::parse_constant;
 use crate::head::Head;
 use crate::head::read_head;
@@ -26,7 +26,7 @@ ghost use Rattle.tokens.specs.Token.{view};
 ghost use Rattle.tokens.specs.Place.{tokensFrom};
 ghost use Rattle.tokens.specs.Number.{UnexpectedType, InvalidDefinition};
 ghost use Rattle.grammar.specs.Result.{plain, expect};
-ghost use Rattle.grammar.specs.Rules.{base};
+ghost use Rattle.grammar.specs.Rules.{asks};
 ghost use Rattle.grammar.specs.FileReader.{parseImports, parseFunction, named, byKind, kindTable, topLevel};
 ghost use Rattle.definitions.specs.Answers.{Reading, DefParsed, DefAdded};
 ghost use Rattle.definitions.specs.Pieces.{listNumber, listKind, listRest, Fitting, signatureOf, SignatureFits, signatureAnswer};
@@ -173,6 +173,7 @@ fn define(
     text: &[u8],
     tokens: &[u32],
     kept: &[u32],
+    strict: bool,
     first: usize,
     p: usize,
     statements: &mut [u32],
@@ -182,7 +183,7 @@ fn define(
 ) -> DefRead
     requires { ⌜ Reading (now tokens) (now kept) first p i a ⌝ }
     ensures { λ r. ⌜ DefParsed 7 (view (now (text .entry)) (now (tokens .entry)) (now (kept .entry))) p i a (length (now (kept .entry)))
-        (byKind (kindTable base first) (plain InvalidDefinition) p (tokensFrom (now (text .entry)) (now (tokens .entry)) (now (kept .entry)) p))
+        (byKind (kindTable (asks strict) first) (plain InvalidDefinition) p (tokensFrom (now (text .entry)) (now (tokens .entry)) (now (kept .entry)) p))
         (now (statements .entry)) (now (arguments .entry)) r (now (statements .exit)) (now (arguments .exit)) ⌝ }
 {
     match kind_at(tokens, kept, p) {
@@ -190,6 +191,7 @@ fn define(
             text,
             tokens,
             kept,
+            strict,
             first,
             p,
             statements,
@@ -220,6 +222,7 @@ fn top_level(
     text: &[u8],
     tokens: &[u32],
     kept: &[u32],
+    strict: bool,
     p: usize,
     statements: &mut [u32],
     arguments: &mut [u32],
@@ -228,12 +231,23 @@ fn top_level(
 ) -> DefRead
     requires { ⌜ Reading (now tokens) (now kept) p p i a ⌝ }
     ensures { λ r. ⌜ DefParsed 8 (view (now (text .entry)) (now (tokens .entry)) (now (kept .entry))) p i a (length (now (kept .entry)))
-        (topLevel base p (tokensFrom (now (text .entry)) (now (tokens .entry)) (now (kept .entry)) p))
+        (topLevel (asks strict) p (tokensFrom (now (text .entry)) (now (tokens .entry)) (now (kept .entry)) p))
         (now (statements .entry)) (now (arguments .entry)) r (now (statements .exit)) (now (arguments .exit)) ⌝ }
 {
     match kind_at(tokens, kept, p) {
         kind::INCLUDE => parse_imports(tokens, kept, p, i, a),
-        kind::DEFINE => define(text, tokens, kept, p, p + 1, statements, arguments, i, a),
+        kind::DEFINE => define(
+            text,
+            tokens,
+            kept,
+            strict,
+            p,
+            p + 1,
+            statements,
+            arguments,
+            i,
+            a,
+        ),
         kind::POUND => DefRead::Refused(number::POUND_AT_TOP_LEVEL, p),
         _ => DefRead::Refused(number::UNEXPECTED_TYPE, p),
     }
@@ -244,6 +258,7 @@ pub fn read_definition(
     text: &[u8],
     tokens: &[u32],
     kept: &[u32],
+    strict: bool,
     p: usize,
     definitions: &mut [u32],
     statements: &mut [u32],
@@ -253,11 +268,11 @@ pub fn read_definition(
 ) -> DefRead
     requires { ⌜ Reading (now tokens) (now kept) p p i a ⌝ }
     ensures { λ r. ⌜ DefAdded (view (now (text .entry)) (now (tokens .entry)) (now (kept .entry))) p i a (length (now (kept .entry)))
-        (topLevel base p (tokensFrom (now (text .entry)) (now (tokens .entry)) (now (kept .entry)) p)) 0 0 0
+        (topLevel (asks strict) p (tokensFrom (now (text .entry)) (now (tokens .entry)) (now (kept .entry)) p)) 0 0 0
         (now (definitions .entry)) (now (statements .entry)) (now (arguments .entry)) r
         (now (definitions .exit)) (now (statements .exit)) (now (arguments .exit)) ⌝ }
 {
-    match top_level(text, tokens, kept, p, statements, arguments, i, a) {
+    match top_level(text, tokens, kept, strict, p, statements, arguments, i, a) {
         DefRead::Refused(c, q) => DefRead::Refused(c, q),
         DefRead::Done(d, n) => {
             put_definition(definitions, 0, d);

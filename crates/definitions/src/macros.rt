@@ -11,6 +11,7 @@ use lists::parse_args;
 use lists::parse_single_arg;
 use statements::Items;
 use statements::Progress;
+use statements::named_once;
 use statements::parse_body;
 use tokens::kind;
 use tokens::kind_at;
@@ -20,7 +21,7 @@ ghost use mathlib.Core.Path.{_≡_};
 ghost use mathlib.Core.List.{List};
 ghost use lib.ListN.{length};
 ghost use Rattle.tokens.specs.Token.{view};
-ghost use Rattle.grammar.specs.Rules.{base};
+ghost use Rattle.grammar.specs.Rules.{asks};
 ghost use Rattle.grammar.specs.Reader.{nameArgument};
 ghost use Rattle.grammar.specs.Typed.{singleNumber};
 ghost use Rattle.grammar.specs.FileReader.{optional, parseArgs, macroRest, parseMacro};
@@ -146,6 +147,7 @@ fn macro_tail(
     text: &[u8],
     tokens: &[u32],
     kept: &[u32],
+    strict: bool,
     n: usize,
     q: usize,
     statements: &mut [u32],
@@ -156,7 +158,7 @@ fn macro_tail(
     requires { ⌜ Reading (now tokens) (now kept) q q i a ⌝ }
     requires { ⌜ n ≤ q ⌝ }
     ensures { λ r. ⌜ TailParsed n q i a (length (now (kept .entry)))
-        (tailFrom q (tokensFrom (now (text .entry)) (now (tokens .entry)) (now (kept .entry)) q))
+        (tailFrom (asks strict) q (tokensFrom (now (text .entry)) (now (tokens .entry)) (now (kept .entry)) q))
         (now (statements .entry)) (now (arguments .entry)) r (now (statements .exit)) (now (arguments .exit)) ⌝ }
 {
     match macro_numbers(tokens, kept, q) {
@@ -167,7 +169,11 @@ fn macro_tail(
                 statements: 0,
                 arguments: n,
             };
-            match parse_body(text, tokens, kept, s, statements, arguments, i, a) {
+            let mut read = parse_body(text, tokens, kept, strict, s, statements, arguments, i, a);
+            if strict {
+                read = named_once(text, tokens, kept, e, read);
+            }
+            match read {
                 Items::Refused(d, x) => Tail::Refused(d, x),
                 Items::Done(t) => Tail::Done(takes, returns, t),
             }
@@ -180,6 +186,7 @@ fn macro_rest(
     text: &[u8],
     tokens: &[u32],
     kept: &[u32],
+    strict: bool,
     kind: u32,
     first: usize,
     name: usize,
@@ -192,7 +199,7 @@ fn macro_rest(
     requires { ⌜ Reading (now tokens) (now kept) first p i a ⌝ }
     requires { ⌜ (name ≤ p) × MacroKind kind ⌝ }
     ensures { λ r. ⌜ DefParsed 5 (view (now (text .entry)) (now (tokens .entry)) (now (kept .entry))) p i a (length (now (kept .entry)))
-        (behindName first name (view (now (text .entry)) (now (tokens .entry)) (now (kept .entry))) (macroRest base (macroSort kind)) p)
+        (behindName first name (view (now (text .entry)) (now (tokens .entry)) (now (kept .entry))) (macroRest (asks strict) (macroSort kind)) p)
         (now (statements .entry)) (now (arguments .entry)) r (now (statements .exit)) (now (arguments .exit)) ⌝ }
 {
     match macro_head(text, tokens, kept, p, arguments) {
@@ -201,6 +208,7 @@ fn macro_rest(
             text,
             tokens,
             kept,
+            strict,
             n,
             q,
             statements,
@@ -222,6 +230,7 @@ pub fn parse_macro(
     text: &[u8],
     tokens: &[u32],
     kept: &[u32],
+    strict: bool,
     first: usize,
     p: usize,
     statements: &mut [u32],
@@ -231,7 +240,7 @@ pub fn parse_macro(
 ) -> DefRead
     requires { ⌜ Reading (now tokens) (now kept) first p i a ⌝ }
     ensures { λ r. ⌜ DefParsed 7 (view (now (text .entry)) (now (tokens .entry)) (now (kept .entry))) p i a (length (now (kept .entry)))
-        (parseMacro base first p (tokensFrom (now (text .entry)) (now (tokens .entry)) (now (kept .entry)) p))
+        (parseMacro (asks strict) first p (tokensFrom (now (text .entry)) (now (tokens .entry)) (now (kept .entry)) p))
         (now (statements .entry)) (now (arguments .entry)) r (now (statements .exit)) (now (arguments .exit)) ⌝ }
 {
     let kind = kind_at(tokens, kept, p);
@@ -248,6 +257,7 @@ pub fn parse_macro(
         text,
         tokens,
         kept,
+        strict,
         kind,
         first,
         p + 1,

@@ -4,19 +4,19 @@ use native.Mathlib.Omega.{arith}
 use mathlib.Core.Path.{_≡_, refl, sym, ap, _∙_}
 use mathlib.Core.Logic.{_↔_}
 use mathlib.Core.Bool.{Bool, true, false, cond}
-use mathlib.Core.List.{List, [], _∷_}
+use mathlib.Core.List.{List, [], _∷_, map}
 use borrow.Author.Tests.{ltb-true, ltb-false, le-ltb}
 use lib.ListN.{length, getD, take}
 use lib.Dec.{ltb, eqb}
 use Rattle.tokens.specs.Number as number
-use Rattle.tokens.specs.Number.{definitionWidth, statementWidth, argumentWidth, labelType, macroDefinition, testDefinition}
+use Rattle.tokens.specs.Number.{definitionWidth, statementWidth, argumentWidth, labelType, macroDefinition, testDefinition, lenientMode, strictMode}
 use Rattle.tokens.specs.Kind.{Eof, Pound}
 use Rattle.tokens.specs.Token.{Token}
 use Rattle.tokens.specs.Kept.{keptOf, keptTokens}
 use Rattle.tokens.specs.WellFormed.{WellFormed}
 use Rattle.tokens.specs.Door.{door}
 use Rattle.tokens.proofs.DoorLaws.{kept-not-empty, Means, means-30, means-35, means-31, means-through, door-means, let-through}
-use Rattle.grammar.specs.Rules.{base}
+use Rattle.grammar.specs.Rules.{isMode, rulesOf}
 use Rattle.grammar.specs.Result.{Answer, read, refused}
 use Rattle.grammar.specs.Facts.{All}
 use Rattle.grammar.specs.FileReading.{Definition}
@@ -27,21 +27,21 @@ use Rattle.grammar.specs.Call.{ReadingNumber, refusal, fileNumbers, afterDoor, 
 use Rattle.grammar.specs.Tables.{Stands, typeWord, firstWord, endWord, innerWord, Flat}
 use Rattle.grammar.specs.FileTables.{FileTable, definitionWord, StatementsOf}
 use Rattle.grammar.specs.Cases.{tokensOf}
-use Rattle.grammar.specs.FileCases.{FileOutcome, FileRow, fileOutcome, ended, fileRows}
+use Rattle.grammar.specs.FileCases.{FileOutcome, FileRow, fileOutcome, ended, fileRows, strictFiles}
 use Rattle.grammar.proofs.Lists.{all-map, all-mapped}
 use Rattle.grammar.proofs.Numbers.{file-ours, held-refused}
 use Rattle.grammar.proofs.FileDemand.{file-exactly, file-cursor, file-repeated, file-pound, file-same-refusal}
 use Rattle.grammar.proofs.FileRecorded.{file-as-many, file-as-wide}
 use Rattle.grammar.proofs.Tabled.{stored-filled, walk-labels-all}
 use Rattle.grammar.proofs.FileTabled.{file-tabled, file-walked}
-use Rattle.grammar.proofs.FileCases.{fileOutcomes, file-rows-hold}
+use Rattle.grammar.proofs.FileCases.{fileOutcomes, file-rows-hold, strict-files-hold}
 use Rattle.statements.proofs.Called.{Through, number-is}
 use Rattle.files.specs.declared.entry.File.{File}
-use Rattle.files.specs.Call.{values, numberOf, afterReading, fileReading, FileCall}
+use Rattle.files.specs.Call.{values, numberOf, afterReading, fileReading, fileAnswered, FileCall}
 
--- the n kept tokens before an Eof follow the grammar, no two macros, fns or tests share a name, and they read ds
-abbrev pub IsFile : List ℕ → List ℕ → ℕ → List Definition → Type 0
-IsFile text words n ds = FollowsFile base true (keptTokens text words) n ds
+-- the n kept tokens before an Eof follow the grammar by the mode's rules, no two macros, fns or tests share a name, and they read ds
+abbrev pub IsFile : ℕ → List ℕ → List ℕ → ℕ → List Definition → Type 0
+IsFile mode text words n ds = FollowsFile (rulesOf mode) true (keptTokens text words) n ds
 
 -- the tables' whole records are enough for a reading's
 pub record Room (definitions statements arguments : List ℕ) (ds : List Definition) : Type 0 where
@@ -53,50 +53,51 @@ pub record Room (definitions statements arguments : List ℕ) (ds : List Definit
 
 -- what the five numbers of a call say of the list and the tables. 32, 33 and 34 are given only to a file that is accepted otherwise, where the whole records of that
 -- table are fewer than needed
-pub data Says (text words kept definitions statements arguments : List ℕ) : List ℕ → Type 0 where
-  says-30 : {at : ℕ} → ¬ WellFormed text words → Says text words kept definitions statements arguments (refusal number.NotWellFormed at)
-  says-35 : WellFormed text words → length kept < length (keptOf words) → Says text words kept definitions statements arguments (refusal number.KeptTooShort (length (keptOf words)))
-  says-refused : {c q : ℕ} → Through text words 0 kept → ReadingNumber c → fileReading text words ≡ refused c q → Says text words kept definitions statements arguments (refusal c q)
+pub data Says (mode : ℕ) (text words kept definitions statements arguments : List ℕ) : List ℕ → Type 0 where
+  says-36 : isMode mode ≡ false → Says mode text words kept definitions statements arguments (refusal number.UnknownMode 0)
+  says-30 : {at : ℕ} → isMode mode ≡ true → ¬ WellFormed text words → Says mode text words kept definitions statements arguments (refusal number.NotWellFormed at)
+  says-35 : isMode mode ≡ true → WellFormed text words → length kept < length (keptOf words) → Says mode text words kept definitions statements arguments (refusal number.KeptTooShort (length (keptOf words)))
+  says-refused : {c q : ℕ} → Through mode text words 0 kept → ReadingNumber c → fileReading mode text words ≡ refused c q → Says mode text words kept definitions statements arguments (refusal c q)
   says-32 : (n : ℕ) (ds : List Definition)
-      → Through text words 0 kept
-      → IsFile text words n ds
+      → Through mode text words 0 kept
+      → IsFile mode text words n ds
       → length definitions / definitionWidth < length ds
-      → Says text words kept definitions statements arguments (refusal number.DefinitionsTooSmall (length ds))
+      → Says mode text words kept definitions statements arguments (refusal number.DefinitionsTooSmall (length ds))
   says-33 : (n : ℕ) (ds : List Definition)
-      → Through text words 0 kept
-      → IsFile text words n ds
+      → Through mode text words 0 kept
+      → IsFile mode text words n ds
       → length ds ≤ length definitions / definitionWidth
       → length statements / statementWidth < fileStatementCount ds
-      → Says text words kept definitions statements arguments (refusal number.StatementsTooSmall (fileStatementCount ds))
+      → Says mode text words kept definitions statements arguments (refusal number.StatementsTooSmall (fileStatementCount ds))
   says-34 : (n : ℕ) (ds : List Definition)
-      → Through text words 0 kept
-      → IsFile text words n ds
+      → Through mode text words 0 kept
+      → IsFile mode text words n ds
       → length ds ≤ length definitions / definitionWidth
       → fileStatementCount ds ≤ length statements / statementWidth
       → length arguments / argumentWidth < length (fileArguments ds)
-      → Says text words kept definitions statements arguments (refusal number.ArgumentsTooSmall (length (fileArguments ds)))
+      → Says mode text words kept definitions statements arguments (refusal number.ArgumentsTooSmall (length (fileArguments ds)))
   says-read : (n : ℕ) (ds : List Definition)
-      → Through text words 0 kept
-      → IsFile text words n ds
+      → Through mode text words 0 kept
+      → IsFile mode text words n ds
       → Room definitions statements arguments ds
-      → Says text words kept definitions statements arguments (fileNumbers (read ds n))
+      → Says mode text words kept definitions statements arguments (fileNumbers (read ds n))
 
-module _ (text words kept definitions statements arguments : List ℕ) where
+module _ (mode : ℕ) (text words kept definitions statements arguments : List ℕ) where
   -- behind the door
-  reading-says : Through text words 0 kept → (x : Answer (List Definition)) → fileReading text words ≡ x
-      → Says text words kept definitions statements arguments (afterReading x (length definitions) (length statements) (length arguments))
+  reading-says : Through mode text words 0 kept → (x : Answer (List Definition)) → fileReading mode text words ≡ x
+      → Says mode text words kept definitions statements arguments (afterReading x (length definitions) (length statements) (length arguments))
   unfolding afterReading
-  reading-says l (refused c q) e = says-refused l (file-ours base true (keptTokens text words) c q e) e
+  reading-says l (refused c q) e = says-refused l (file-ours (rulesOf mode) true (keptTokens text words) c q e) e
   reading-says l (read ds n) e =
       go (ltb (length definitions / definitionWidth) (length ds)) refl (ltb (length statements / statementWidth) (fileStatementCount ds)) refl (ltb (length arguments / argumentWidth) (length (fileArguments ds))) refl
     where
-      follows : IsFile text words n ds
-      follows = file-exactly base true (keptTokens text words) n ds .0 e
+      follows : IsFile mode text words n ds
+      follows = file-exactly (rulesOf mode) true (keptTokens text words) n ds .0 e
 
       go : (b : Bool) → ltb (length definitions / definitionWidth) (length ds) ≡ b
           → (d : Bool) → ltb (length statements / statementWidth) (fileStatementCount ds) ≡ d
           → (g : Bool) → ltb (length arguments / argumentWidth) (length (fileArguments ds)) ≡ g
-          → Says text words kept definitions statements arguments
+          → Says mode text words kept definitions statements arguments
           (cond b (refusal number.DefinitionsTooSmall (length ds))
           (cond d (refusal number.StatementsTooSmall (fileStatementCount ds))
           (cond g (refusal number.ArgumentsTooSmall (length (fileArguments ds))) (fileNumbers (read ds n)))))
@@ -106,21 +107,27 @@ module _ (text words kept definitions statements arguments : List ℕ) where
       go false eb false ed false eg = says-read n ds l follows (record { forDefinitions = ltb-false _ _ eb; forStatements = ltb-false _ _ ed; forArguments = ltb-false _ _ eg })
 
   -- and at it, where a file is read from start 0, so that 31 is never given
-  door-says : (said : ℕ × ℕ) → Means text words 0 (length kept) said
-      → Says text words kept definitions statements arguments (afterDoor said (afterReading (fileReading text words) (length definitions) (length statements) (length arguments)))
-  door-says said (means-30 f) = says-30 f
-  door-says said (means-35 f h) = says-35 f h
-  door-says said (means-31 f h k) = absurd (omega (arith, k, kept-not-empty text words f))
-  door-says said (means-through l) = reading-says (rw (l .count) l) (fileReading text words) refl
+  door-says : isMode mode ≡ true → (said : ℕ × ℕ) → Means text words 0 (length kept) said
+      → Says mode text words kept definitions statements arguments (afterDoor said (afterReading (fileReading mode text words) (length definitions) (length statements) (length arguments)))
+  door-says known said (means-30 f) = says-30 known f
+  door-says known said (means-35 f h) = says-35 known f h
+  door-says known said (means-31 f h k) = absurd (omega (arith, k, kept-not-empty text words f))
+  door-says known said (means-through l) = reading-says (record { known = known; list = rw (l .count) l }) (fileReading mode text words) refl
 
-module _ {text words kept definitions statements arguments : List ℕ} {r : File} {kept′ definitions′ statements′ arguments′ : List ℕ}
-    (call : FileCall text words kept definitions statements arguments r kept′ definitions′ statements′ arguments′) where
+  -- and before it
+  entrance-says : (b : Bool) → isMode mode ≡ b
+      → Says mode text words kept definitions statements arguments (fileAnswered mode text words (length kept) (length definitions) (length statements) (length arguments))
+  entrance-says false e = rw e (says-36 e)
+  entrance-says true e = rw e (door-says e (door text words 0 (length kept)) (door-means text words 0 (length kept)))
+
+module _ {mode : ℕ} {text words kept definitions statements arguments : List ℕ} {r : File} {kept′ definitions′ statements′ arguments′ : List ℕ}
+    (call : FileCall mode text words kept definitions statements arguments r kept′ definitions′ statements′ arguments′) where
   abbrev tokens : List Token
   tokens = keptTokens text words
 
   -- every call's numbers say so
-  pub file-call-says : Says text words kept definitions statements arguments (values r)
-  file-call-says = rw (call .answer) (door-says text words kept definitions statements arguments (door text words 0 (length kept)) (door-means text words 0 (length kept)))
+  pub file-call-says : Says mode text words kept definitions statements arguments (values r)
+  file-call-says = rw (call .answer) (entrance-says mode text words kept definitions statements arguments (isMode mode) refl)
 
   -- the answer and the tables are those of the reading ds, and Eof stands at n
   pub record Holding (n : ℕ) (ds : List Definition) : Type 0 where
@@ -129,43 +136,45 @@ module _ {text words kept definitions statements arguments : List ℕ} {r : File
     pub statementsHold : statements′ ≡ filled (length statements) (fileStatements 0 0 ds)
     pub argumentsHold : arguments′ ≡ filled (length arguments) (fileArgumentRecords ds)
 
-  holding : (n : ℕ) (ds : List Definition) → fileReading text words ≡ read ds n → values r ≡ fileNumbers (read ds n) → Holding n ds
+  holding : (n : ℕ) (ds : List Definition) → fileReading mode text words ≡ read ds n → values r ≡ fileNumbers (read ds n) → Holding n ds
   unfolding heldAfter
   holding n ds e is =
       record { answer = is; definitionsHold = call .definitionsHold ∙ rw (e, is); statementsHold = call .statementsHold ∙ rw (e, is); argumentsHold = call .argumentsHold ∙ rw (e, is) }
 
   -- an accepted call was let through at the door and has read a file that follows the grammar, and the tables had room for its records
   pub record Accepted : Type 0 where
-    pub through : Through text words 0 kept
+    pub through : Through mode text words 0 kept
     pub n : ℕ
     pub ds : List Definition
-    pub follows : IsFile text words n ds
+    pub follows : IsFile mode text words n ds
     pub room : Room definitions statements arguments ds
     pub holds : Holding n ds
 
   pub accepted : numberOf r ≡ 0 → Accepted
   accepted z = go (values r) refl file-call-says
     where
-      go : (v : List ℕ) → values r ≡ v → Says text words kept definitions statements arguments v → Accepted
-      go v is (says-30 f) = absurd (omega (arith, number-is is))
-      go v is (says-35 f h) = absurd (omega (arith, number-is is))
+      go : (v : List ℕ) → values r ≡ v → Says mode text words kept definitions statements arguments v → Accepted
+      go v is (says-36 k) = absurd (omega (arith, number-is is))
+      go v is (says-30 k f) = absurd (omega (arith, number-is is))
+      go v is (says-35 k f h) = absurd (omega (arith, number-is is))
       go v is (says-refused l ours e) = absurd (omega (arith, number-is is, ours .0))
       go v is (says-32 n ds l f h) = absurd (omega (arith, number-is is))
       go v is (says-33 n ds l f h k) = absurd (omega (arith, number-is is))
       go v is (says-34 n ds l f h k g) = absurd (omega (arith, number-is is))
-      go v is (says-read n ds l f room) = record { through = l; n = n; ds = ds; follows = f; room = room; holds = holding n ds (file-exactly base true tokens n ds .1 f) is }
+      go v is (says-read n ds l f room) = record { through = l; n = n; ds = ds; follows = f; room = room; holds = holding n ds (file-exactly (rulesOf mode) true tokens n ds .1 f) is }
 
   -- refused by the reading: the door let the call through, and the reader gives this number and cursor
   pub record RefusedThere (c q : ℕ) : Type 0 where
-    pub through : Through text words 0 kept
-    pub reads : fileReading text words ≡ refused c q
+    pub through : Through mode text words 0 kept
+    pub reads : fileReading mode text words ≡ refused c q
 
   pub refused-there : (c q : ℕ) → values r ≡ refusal c q → ReadingNumber c → RefusedThere c q
   refused-there c q is ours = go (values r) refl file-call-says
     where
-      go : (v : List ℕ) → values r ≡ v → Says text words kept definitions statements arguments v → RefusedThere c q
-      go v e (says-30 f) = absurd (omega (arith, number-is (sym is ∙ e), ours .1))
-      go v e (says-35 f h) = absurd (omega (arith, number-is (sym is ∙ e), ours .1))
+      go : (v : List ℕ) → values r ≡ v → Says mode text words kept definitions statements arguments v → RefusedThere c q
+      go v e (says-36 k) = absurd (omega (arith, number-is (sym is ∙ e), ours .1))
+      go v e (says-30 k f) = absurd (omega (arith, number-is (sym is ∙ e), ours .1))
+      go v e (says-35 k f h) = absurd (omega (arith, number-is (sym is ∙ e), ours .1))
       go v e (says-refused {c = d} {q = p} l o g) =
           let k : c ≡ d = number-is (sym is ∙ e) in
           let m : q ≡ p = ap (λ (w : List ℕ). getD w 1 0) (sym is ∙ e) in
@@ -177,11 +186,11 @@ module _ {text words kept definitions statements arguments : List ℕ} {r : File
 
   -- ---- the tables
 
-  tables-of : (n : ℕ) (ds : List Definition) → IsFile text words n ds → Holding n ds
+  tables-of : (n : ℕ) (ds : List Definition) → IsFile mode text words n ds → Holding n ds
       → FileTable tokens definitions′ statements′ arguments′ 0 (length ds) 0 (fileStatementCount ds) 0 (length (fileArguments ds)) 0 n
   tables-of n ds follows holds =
       let wide = file-as-wide 0 0 ds in
-      file-tabled base true tokens n ds follows definitions′ statements′ arguments′
+      file-tabled (rulesOf mode) true tokens n ds follows definitions′ statements′ arguments′
       (rw (holds .definitionsHold) (stored-filled definitionWidth (length definitions) (definitionRecords 0 0 ds) (wide .0)))
       (rw (holds .statementsHold) (stored-filled statementWidth (length statements) (fileStatements 0 0 ds) (wide .1)))
       (rw (holds .argumentsHold) (stored-filled argumentWidth (length arguments) (fileArgumentRecords ds) (wide .2)))
@@ -211,46 +220,47 @@ module _ {text words kept definitions statements arguments : List ℕ} {r : File
       walk-labels-all statements′ (definitionWord 8 definitions′ d) (suc (body .b)) (definitionWord 8 definitions′ d + definitionWord 9 definitions′ d) (definitionWord 3 definitions′ d - 1) (body .between)
 
   -- a number of the reading is given exactly where the reader gives it, behind the door
-  said : (c q : ℕ) → ReadingNumber c → (What : Type 0) → (fileReading text words ≡ refused c q) ↔ What
-      → (values r ≡ refusal c q) ↔ (WellFormed text words × (length (keptOf words) ≤ length kept) × What)
+  said : (c q : ℕ) → ReadingNumber c → (What : Type 0) → (fileReading mode text words ≡ refused c q) ↔ What
+      → (values r ≡ refusal c q) ↔ ((isMode mode ≡ true) × WellFormed text words × (length (keptOf words) ≤ length kept) × What)
   unfolding afterReading
   said c q ours What means = (
-    (λ is. let there = refused-there c q is ours in (there .through .formed, there .through .room-enough, means .0 (there .reads))),
-    (λ w. call .answer ∙ rw (let-through text words 0 (length kept) (w .0) (w .1) (kept-not-empty text words (w .0))) (rw (means .1 (w .2)))),
+    (λ is. let there = refused-there c q is ours in (there .through .known, there .through .list .formed, there .through .list .room-enough, means .0 (there .reads))),
+    (λ w. call .answer ∙ rw (w .0, let-through text words 0 (length kept) (w .1) (w .2) (kept-not-empty text words (w .1))) (rw (means .1 (w .3)))),
   )
 
   -- ---- the cursor
 
   -- refused with a number of the reading but 20: there is a first token that the rules don't allow, and the cursor is it or one past it
-  pub file-call-cursor : (c q : ℕ) → values r ≡ refusal c q → ReadingNumber c → eqb c number.DuplicateMacro ≡ false → (w : ℕ) × FirstWrongFile base tokens w × CursorAt base tokens c q w
-  file-call-cursor c q is ours other = file-cursor base true tokens c q (refused-there c q is ours .reads) other
+  pub file-call-cursor : (c q : ℕ) → values r ≡ refusal c q → ReadingNumber c → eqb c number.DuplicateMacro ≡ false → (w : ℕ) × FirstWrongFile (rulesOf mode) tokens w × CursorAt (rulesOf mode) tokens c q w
+  file-call-cursor c q is ours other = file-cursor (rulesOf mode) true tokens c q (refused-there c q is ours .reads) other
 
-  -- 20 is given exactly to a well-formed list, with a kept list long enough, in which a whole macro, fn or test is named like one before it; the cursor is its name
-  pub file-call-repeated : (q : ℕ) → (values r ≡ refusal number.DuplicateMacro q) ↔ (WellFormed text words × (length (keptOf words) ≤ length kept) × RepeatedAt base tokens q)
-  file-call-repeated q = said number.DuplicateMacro q (omega arith) (RepeatedAt base tokens q) (file-repeated base tokens q)
+  -- 20 is given exactly, in either mode, to a well-formed list, with a kept list long enough, in which a whole macro, fn or test is named like one before it; the cursor is its name
+  pub file-call-repeated : (q : ℕ) → (values r ≡ refusal number.DuplicateMacro q) ↔ ((isMode mode ≡ true) × WellFormed text words × (length (keptOf words) ≤ length kept) × RepeatedAt (rulesOf mode) tokens q)
+  file-call-repeated q = said number.DuplicateMacro q (omega arith) (RepeatedAt (rulesOf mode) tokens q) (file-repeated (rulesOf mode) tokens q)
 
   -- 21 exactly where definitions stand up to a Pound; the cursor is the Pound
-  pub file-call-pound : (q : ℕ) → (values r ≡ refusal number.PoundAtTopLevel q) ↔ (WellFormed text words × (length (keptOf words) ≤ length kept) × Reached base true tokens Pound q)
-  file-call-pound q = said number.PoundAtTopLevel q (omega arith) (Reached base true tokens Pound q) (file-pound base true tokens q)
+  pub file-call-pound : (q : ℕ) → (values r ≡ refusal number.PoundAtTopLevel q) ↔ ((isMode mode ≡ true) × WellFormed text words × (length (keptOf words) ≤ length kept) × Reached (rulesOf mode) true tokens Pound q)
+  file-call-pound q = said number.PoundAtTopLevel q (omega arith) (Reached (rulesOf mode) true tokens Pound q) (file-pound (rulesOf mode) true tokens q)
 
--- another call, on a well-formed list with a kept list long enough, whose kept tokens are the same from place 0 to the cursor: it is refused alike, and its
+-- another call in the same mode, on a well-formed list with a kept list long enough, whose kept tokens are the same from place 0 to the cursor: it is refused alike, and its
 -- tables are zero. Not so for 20: a macro's brace, behind its name, has to be read first
-module _ {text words kept definitions statements arguments : List ℕ} {r : File} {kept′ definitions′ statements′ arguments′ : List ℕ}
+module _ {mode : ℕ} {text words kept definitions statements arguments : List ℕ} {r : File} {kept′ definitions′ statements′ arguments′ : List ℕ}
     {text₂ words₂ kept₂ definitions₂ statements₂ arguments₂ : List ℕ} {r₂ : File} {kept₂′ definitions₂′ statements₂′ arguments₂′ : List ℕ} where
   pub file-call-same-refusal : (c q : ℕ)
-      → FileCall text words kept definitions statements arguments r kept′ definitions′ statements′ arguments′
+      → FileCall mode text words kept definitions statements arguments r kept′ definitions′ statements′ arguments′
       → values r ≡ refusal c q → ReadingNumber c → eqb c number.DuplicateMacro ≡ false
       → WellFormed text₂ words₂ → length (keptOf words₂) ≤ length kept₂
       → take (suc q) (keptTokens text words) ≡ take (suc q) (keptTokens text₂ words₂)
-      → FileCall text₂ words₂ kept₂ definitions₂ statements₂ arguments₂ r₂ kept₂′ definitions₂′ statements₂′ arguments₂′
+      → FileCall mode text₂ words₂ kept₂ definitions₂ statements₂ arguments₂ r₂ kept₂′ definitions₂′ statements₂′ arguments₂′
       → (values r₂ ≡ refusal c q)
       × (definitions₂′ ≡ filled (length definitions₂) [])
       × (statements₂′ ≡ filled (length statements₂) [])
       × (arguments₂′ ≡ filled (length arguments₂) [])
   unfolding afterReading
   file-call-same-refusal c q call is ours other formed room agree second =
-      let reads = file-same-refusal base true (keptTokens text words) (keptTokens text₂ words₂) c q (refused-there call c q is ours .reads) other agree in
-      let said : values r₂ ≡ refusal c q = second .answer ∙ rw (let-through text₂ words₂ 0 (length kept₂) formed room (kept-not-empty text₂ words₂ formed)) (rw reads) in (
+      let there = refused-there call c q is ours in
+      let reads = file-same-refusal (rulesOf mode) true (keptTokens text words) (keptTokens text₂ words₂) c q (there .reads) other agree in
+      let said : values r₂ ≡ refusal c q = second .answer ∙ rw (there .through .known, let-through text₂ words₂ 0 (length kept₂) formed room (kept-not-empty text₂ words₂ formed)) (rw reads) in (
         said,
         second .definitionsHold ∙ rw said (held-refused c _ definitions₂ ours),
         second .statementsHold ∙ rw said (held-refused c _ statements₂ ours),
@@ -266,23 +276,23 @@ pub record Told (definitions statements arguments : List ℕ) (r : File) (defini
   pub statementsHold : statements′ ≡ filled (length statements) (o .statements)
   pub argumentsHold : arguments′ ≡ filled (length arguments) (o .arguments)
 
--- a well-formed list, a kept list long enough, and tables with room for the reading's records: the call answers the reading
-pub with-room : {text words kept definitions statements arguments : List ℕ} {r : File} {kept′ definitions′ statements′ arguments′ : List ℕ}
-    → WellFormed text words → length (keptOf words) ≤ length kept
-    → (o : FileOutcome) → fileOutcome (fileReading text words) ≡ o
+-- a mode that there is, a well-formed list, a kept list long enough, and tables with room for the reading's records: the call answers the reading
+pub with-room : {mode : ℕ} {text words kept definitions statements arguments : List ℕ} {r : File} {kept′ definitions′ statements′ arguments′ : List ℕ}
+    → isMode mode ≡ true → WellFormed text words → length (keptOf words) ≤ length kept
+    → (o : FileOutcome) → fileOutcome (fileReading mode text words) ≡ o
     → length (o .definitions) ≤ length definitions / definitionWidth
     → length (o .statements) ≤ length statements / statementWidth
     → length (o .arguments) ≤ length arguments / argumentWidth
-    → FileCall text words kept definitions statements arguments r kept′ definitions′ statements′ arguments′
+    → FileCall mode text words kept definitions statements arguments r kept′ definitions′ statements′ arguments′
     → Told definitions statements arguments r definitions′ statements′ arguments′ o
 unfolding afterReading heldAfter
-with-room {text} {words} {kept} {definitions} {statements} {arguments} {r} {kept′} {definitions′} {statements′} {arguments′} formed enough o is room room′ room″ call =
-    rw is at (go (fileReading text words) refl (rw (← is) at room) (rw (← is) at room′) (rw (← is) at room″))
+with-room {mode} {text} {words} {kept} {definitions} {statements} {arguments} {r} {kept′} {definitions′} {statements′} {arguments′} known formed enough o is room room′ room″ call =
+    rw is at (go (fileReading mode text words) refl (rw (← is) at room) (rw (← is) at room′) (rw (← is) at room″))
   where
-    answered : values r ≡ afterReading (fileReading text words) (length definitions) (length statements) (length arguments)
-    answered = call .answer ∙ rw (let-through text words 0 (length kept) formed enough (kept-not-empty text words formed))
+    answered : values r ≡ afterReading (fileReading mode text words) (length definitions) (length statements) (length arguments)
+    answered = call .answer ∙ rw (known, let-through text words 0 (length kept) formed enough (kept-not-empty text words formed))
 
-    go : (x : Answer (List Definition)) → fileReading text words ≡ x
+    go : (x : Answer (List Definition)) → fileReading mode text words ≡ x
         → length (recordsOf (definitionRecords 0 0) x) ≤ length definitions / definitionWidth
         → length (recordsOf (fileStatements 0 0) x) ≤ length statements / statementWidth
         → length (recordsOf fileArgumentRecords x) ≤ length arguments / argumentWidth
@@ -293,7 +303,7 @@ with-room {text} {words} {kept} {definitions} {statements} {arguments} {r} {kept
         record { answer = told; definitionsHold = call .definitionsHold ∙ rw (e, told); statementsHold = call .statementsHold ∙ rw (e, told); argumentsHold = call .argumentsHold ∙ rw (e, told) }
     go (refused c q) e hd hs ha =
         let told : values r ≡ refusal c q = answered ∙ rw e in
-        let ours = file-ours base true (keptTokens text words) c q e in
+        let ours = file-ours (rulesOf mode) true (keptTokens text words) c q e in
         record {
           answer = told;
           definitionsHold = call .definitionsHold ∙ rw told (held-refused c _ definitions ours);
@@ -301,12 +311,12 @@ with-room {text} {words} {kept} {definitions} {statements} {arguments} {r} {kept
           argumentsHold = call .argumentsHold ∙ rw told (held-refused c _ arguments ours);
         }
 
--- ---- the rows of files
+-- ---- the rows of files, and those of request [1]
 
 -- for every well-formed text and words whose kept tokens are the row's, whatever their texts are where no rule looks at them, with room, a call leaves the row's
 -- numbers and tables
-abbrev pub Answered : (ℕ → List ℕ) → FileRow → Type 0
-Answered texts row =
+abbrev pub Answered : ℕ → (ℕ → List ℕ) → FileRow → Type 0
+Answered mode texts row =
     (text words kept definitions statements arguments : List ℕ) (r : File) (kept′ definitions′ statements′ arguments′ : List ℕ)
     → WellFormed text words
     → keptTokens text words ≡ tokensOf texts 0 (ended (row .input))
@@ -314,16 +324,26 @@ Answered texts row =
     → length (row .outcome .definitions) ≤ length definitions / definitionWidth
     → length (row .outcome .statements) ≤ length statements / statementWidth
     → length (row .outcome .arguments) ≤ length arguments / argumentWidth
-    → FileCall text words kept definitions statements arguments r kept′ definitions′ statements′ arguments′
+    → FileCall mode text words kept definitions statements arguments r kept′ definitions′ statements′ arguments′
     → Told definitions statements arguments r definitions′ statements′ arguments′ (row .outcome)
 
-pub file-call-rows : (texts : ℕ → List ℕ) → All (Answered texts) fileRows
+-- where the reader gives a list of rows their outcomes, a call does
+rows-answered : (mode : ℕ) (texts : ℕ → List ℕ) (list : List FileRow) → isMode mode ≡ true → fileOutcomes mode texts list ≡ map (λ row. row .outcome) list → All (Answered mode texts) list
 unfolding fileOutcomes
-file-call-rows texts = all-map (λ row. answer row ≡ row .outcome) (Answered texts) fileRows one (all-mapped answer (λ row. row .outcome) fileRows (file-rows-hold texts))
+rows-answered mode texts list known hold = all-map (λ row. answer row ≡ row .outcome) (Answered mode texts) list one (all-mapped answer (λ row. row .outcome) list hold)
   where
     answer : FileRow → FileOutcome
-    answer row = fileOutcome (fileAt base true (tokensOf texts 0 (ended (row .input))))
+    answer row = fileOutcome (fileAt (rulesOf mode) true (tokensOf texts 0 (ended (row .input))))
 
-    one : (row : FileRow) → answer row ≡ row .outcome → Answered texts row
+    one : (row : FileRow) → answer row ≡ row .outcome → Answered mode texts row
     one row e text words kept definitions statements arguments r kept′ definitions′ statements′ arguments′ formed same enough room room′ room″ call =
-        with-room formed enough (row .outcome) (rw same e) room room′ room″ call
+        with-room known formed enough (row .outcome) (rw same e) room room′ room″ call
+
+pub file-call-rows : (texts : ℕ → List ℕ) → All (Answered lenientMode texts) fileRows
+unfolding isMode
+file-call-rows texts = rows-answered lenientMode texts fileRows refl (file-rows-hold texts)
+
+-- those of request [1]
+pub file-call-strict-rows : (texts : ℕ → List ℕ) → All (Answered strictMode texts) strictFiles
+unfolding isMode
+file-call-strict-rows texts = rows-answered strictMode texts strictFiles refl (strict-files-hold texts)

@@ -1,7 +1,7 @@
 -- Laws of the entry: the kept numbers as a part of the kept list, tables that hold records and zeros, and each way out. Assumes nothing.
 use Prim.Native.Nat.{ℕ, _-_, _/_, _≤_, _<_}
 use mathlib.Core.Path.{_≡_, refl, sym, ap, _∙_}
-use mathlib.Core.Bool.{true}
+use mathlib.Core.Bool.{true, false}
 use mathlib.Core.List.{List, []}
 use native.Mathlib.Omega.{arith}
 use borrow.Author.Tests.{lt-ltb, le-ltb}
@@ -18,7 +18,7 @@ use Rattle.tokens.proofs.LentLaws.{records-then-zeros}
 use Rattle.tokens.proofs.DoorLaws.{file-not-31}
 use Rattle.tokens.proofs.PlaceLaws.{kept-part}
 use Rattle.grammar.specs.Result.{Res, got, bad, refused, answer}
-use Rattle.grammar.specs.Rules.{base}
+use Rattle.grammar.specs.Rules.{isMode, rulesOf}
 use Rattle.grammar.specs.FileReading.{Definition}
 use Rattle.grammar.specs.FileReader.{fileAt}
 use Rattle.grammar.specs.FileRecords.{definitionRecords, fileStatements, fileArguments, fileArgumentRecords, fileStatementCount}
@@ -153,21 +153,26 @@ module _ (de st ar de₁ st₁ ar₁ : List ℕ) (de-same : length de₁ ≡ len
 
 -- ---- each way out of `read_file`
 
-module _ (text words kept kept′ : List ℕ) (r : Door) (prepared : Prepared text words 0 kept r kept′) where
+-- 36: nothing lent has changed
+pub called-36 : {mode : ℕ} {text words kept de st ar : List ℕ} → isMode mode ≡ false → FileCall mode text words kept de st ar answers.UnknownMode kept de st ar
+unfolding heldAfter
+called-36 e = record { answer = rw e; own = tt; list = rw e; definitionsHold = refl; statementsHold = refl; argumentsHold = refl }
+
+module _ (mode : ℕ) (known : isMode mode ≡ true) (text words kept kept′ : List ℕ) (r : Door) (prepared : Prepared text words 0 kept r kept′) where
   -- what the door said
   told : {d : Door} → r ≡ d → doors.values d ≡ door text words 0 (length kept)
   told is = ap doors.values (sym is) ∙ prepared .answer
 
   -- let through: the reading of the kept numbers, which are the first words of the kept list
   pub called-ready : (n : ℕ) → r ≡ Ready n → (de st ar : List ℕ) (f : File) (de′ st′ ar′ : List ℕ)
-      → FileTaken (fileAt base true (view text words (take (n - 0) kept′))) de st ar f de′ st′ ar′
-      → FileCall text words kept de st ar f kept′ de′ st′ ar′
+      → FileTaken (fileAt (rulesOf mode) true (view text words (take (n - 0) kept′))) de st ar f de′ st′ ar′
+      → FileCall mode text words kept de st ar f kept′ de′ st′ ar′
   called-ready n is de st ar f de′ st′ ar′ taken =
-      let read : FileTaken (fileAt base true (view text words (keptOf words))) de st ar f de′ st′ ar′ = rw (kept-part text words 0 kept prepared is .0) at taken in
+      let read : FileTaken (fileAt (rulesOf mode) true (view text words (keptOf words))) de st ar f de′ st′ ar′ = rw (kept-part text words 0 kept prepared is .0) at taken in
       record {
-        answer = read .answer ∙ rw (sym (told is));
+        answer = read .answer ∙ rw (known, sym (told is));
         own = read .own;
-        list = prepared .list;
+        list = prepared .list ∙ rw known;
         definitionsHold = read .definitionsHold;
         statementsHold = read .statementsHold;
         argumentsHold = read .argumentsHold;
@@ -175,14 +180,14 @@ module _ (text words kept kept′ : List ℕ) (r : Door) (prepared : Prepared te
 
   -- 30 and 35: nothing lent has changed
   module _ (de st ar : List ℕ) (at : ℕ) where
-    pub called-30 : r ≡ NotWellFormed at → FileCall text words kept de st ar (answers.NotWellFormed at) kept′ de st ar
+    pub called-30 : r ≡ NotWellFormed at → FileCall mode text words kept de st ar (answers.NotWellFormed at) kept′ de st ar
     unfolding heldAfter
-    called-30 is = record { answer = rw (sym (told is)); own = tt; list = prepared .list; definitionsHold = refl; statementsHold = refl; argumentsHold = refl }
+    called-30 is = record { answer = rw (known, sym (told is)); own = tt; list = prepared .list ∙ rw known; definitionsHold = refl; statementsHold = refl; argumentsHold = refl }
 
-    pub called-35 : r ≡ KeptTooShort at → FileCall text words kept de st ar (answers.KeptTooShort at) kept′ de st ar
+    pub called-35 : r ≡ KeptTooShort at → FileCall mode text words kept de st ar (answers.KeptTooShort at) kept′ de st ar
     unfolding heldAfter
-    called-35 is = record { answer = rw (sym (told is)); own = tt; list = prepared .list; definitionsHold = refl; statementsHold = refl; argumentsHold = refl }
+    called-35 is = record { answer = rw (known, sym (told is)); own = tt; list = prepared .list ∙ rw known; definitionsHold = refl; statementsHold = refl; argumentsHold = refl }
 
     -- never given
-    pub called-31 : r ≡ StartOutside at → FileCall text words kept de st ar (answers.NotWellFormed at) kept′ de st ar
+    pub called-31 : r ≡ StartOutside at → FileCall mode text words kept de st ar (answers.NotWellFormed at) kept′ de st ar
     called-31 is = absurd (file-not-31 text words (length kept) (told is))

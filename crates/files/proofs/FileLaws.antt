@@ -9,16 +9,16 @@ use mathlib.Core.Bool.{Bool, true, false}
 use mathlib.Core.List.{List, [], _∷_, map, map-append}
 use borrow.Author.Tests.{eq-eqb, ne-eqb}
 use borrow.Rule.Slice.PartMut.{midOf, putMid}
-use lib.ListN.{length, drop, replicate, length-append, length-map, length-replicate}
+use lib.ListN.{length, getD, drop, replicate, length-append, length-map, length-replicate, getD-replicate}
 use Rattle.tokens.specs.Kind.{Eof}
 use Rattle.tokens.specs.Token.{Token, tokenAt, view}
-use Rattle.tokens.specs.Place.{KindAt}
+use Rattle.tokens.specs.Place.{FromDoor, KindAt}
 use Rattle.tokens.specs.Name.{oneOf}
 use Rattle.tokens.specs.Number.{UnexpectedType, DuplicateMacro, definitionWidth, statementWidth, argumentWidth}
 use Rattle.tokens.specs.Lent.{putAll}
 use Rattle.tokens.proofs.TokenLaws.{view-kind, view-length}
 use Rattle.tokens.proofs.LentLaws.{putAll-append, rest-written}
-use Rattle.grammar.specs.Rules.{base}
+use Rattle.grammar.specs.Rules.{Rules}
 use Rattle.grammar.specs.Result.{Why, plain, number, beyond, Res, got, bad, counted, consed, many, choose}
 use Rattle.grammar.specs.Records.{argumentRecord}
 use Rattle.grammar.specs.FileReading.{Definition, isMacro}
@@ -30,8 +30,8 @@ use Rattle.definitions.specs.declared.record.Definition as code
 use Rattle.definitions.specs.declared.record.DefRead.{DefRead}
 use Rattle.definitions.specs.declared.record.DefRead.the-variants as defs
 use Rattle.files.specs.declared.file.FileRead.the-variants as files
-use Rattle.names.specs.Names.{namesAt, Noted, Noting, Checked}
-use Rattle.files.specs.Answers.{FileParsed}
+use Rattle.names.specs.Names.{namesAt, latest, Noted, Noting, Checked}
+use Rattle.files.specs.Answers.{Readable, FileParsed}
 use Rattle.definitions.specs.Answers.{codeDefinition, isNamed, ownStatements, ownArguments, DefAdded, DefWithin}
 use Rattle.definitions.proofs.HeadLaws.{named-is}
 use Rattle.files.proofs.RecordLaws.{form-count}
@@ -115,51 +115,51 @@ module _ (de st ar : List ℕ) (p d i a : ℕ) (x : Definition) where
   one-more k (bad y w) = refl
 
 -- the end that the loop comes to from place p, behind macros, fns and tests of these names
-abbrev pub left : List Token → List ℕ → List ℕ → List ℕ → ℕ → ℕ → ℕ → List (List ℕ) → ℕ → Outcome
-left all de st ar d i a seen p = outcome de st ar p d i a (many endsFile rememberName (definition base true) seen 0 p (drop p all))
+abbrev pub left : Rules → List Token → List ℕ → List ℕ → List ℕ → ℕ → ℕ → ℕ → List (List ℕ) → ℕ → Outcome
+left rules all de st ar d i a seen p = outcome de st ar p d i a (many endsFile rememberName (definition rules true) seen 0 p (drop p all))
 
 -- ---- a turn
 
-module _ (all : List Token) (de st ar : List ℕ) (d i a : ℕ) (seen : List (List ℕ)) (p : ℕ) where
+module _ (rules : Rules) (all : List Token) (de st ar : List ℕ) (d i a : ℕ) (seen : List (List ℕ)) (p : ℕ) where
   -- Eof
-  pub left-end : p < length all → tokenAt all p .kind ≡ Eof → left all de st ar d i a seen p ≡ ended p d i a de st ar
+  pub left-end : p < length all → tokenAt all p .kind ≡ Eof → left rules all de st ar d i a seen p ≡ ended p d i a de st ar
   unfolding putAll definitionRecords fileStatements fileArguments fileArgumentRecords fileStatementCount
   left-end h e =
-      ap (outcome de st ar p d i a) (many-ends endsFile rememberName (definition base true) seen p all h (eq-eqb _ _ e))
+      ap (outcome de st ar p d i a) (many-ends endsFile rememberName (definition rules true) seen p all h (eq-eqb _ _ e))
       ∙ same-end (add-zero p) (add-zero d) (add-zero i) (add-zero a) refl refl refl
 
   -- past the end of a list without an Eof
-  pub left-out : length all ≤ p → left all de st ar d i a seen p ≡ stopped UnexpectedType p
+  pub left-out : length all ≤ p → left rules all de st ar d i a seen p ≡ stopped UnexpectedType p
   unfolding definition checked topLevel byKind choose
   left-out h =
-      ap (outcome de st ar p d i a) (many-runs-out endsFile rememberName (definition base true) seen p all (plain UnexpectedType) p h refl)
+      ap (outcome de st ar p d i a) (many-runs-out endsFile rememberName (definition rules true) seen p all (plain UnexpectedType) p h refl)
       ∙ ap (stopped UnexpectedType) (add-zero p)
 
   module _ (inside : p < length all) (other : tokenAt all p .kind ≡ Eof → ⊥) where
-    goes : (x : Definition) (k : ℕ) → definition base true seen p (drop p all) ≡ got x k → p < p + k
-        → left all de st ar d i a seen p
-        ≡ left all (de⁺ de st ar p d i a x) (st⁺ de st ar p d i a x) (ar⁺ de st ar p d i a x) (d + 1) (i + formCount (x .form)) (a + length (formArguments (x .form)))
+    goes : (x : Definition) (k : ℕ) → definition rules true seen p (drop p all) ≡ got x k → p < p + k
+        → left rules all de st ar d i a seen p
+        ≡ left rules all (de⁺ de st ar p d i a x) (st⁺ de st ar p d i a x) (ar⁺ de st ar p d i a x) (d + 1) (i + formCount (x .form)) (a + length (formArguments (x .form)))
         (rememberName seen x) (p + k)
     goes x zero u lt = absurd (none (omega arith))
       where
         none : p < p → ⊥
         none h = omega arith
     goes x (suc n) u lt =
-        ap (outcome de st ar p d i a) (many-goes endsFile rememberName (definition base true) seen p all x n inside (ne-eqb _ _ other) u)
-        ∙ one-more de st ar p d i a x (suc n) (many endsFile rememberName (definition base true) (rememberName seen x) 0 (p + suc n) (drop (p + suc n) all))
+        ap (outcome de st ar p d i a) (many-goes endsFile rememberName (definition rules true) seen p all x n inside (ne-eqb _ _ other) u)
+        ∙ one-more de st ar p d i a x (suc n) (many endsFile rememberName (definition rules true) (rememberName seen x) 0 (p + suc n) (drop (p + suc n) all))
 
-    refuses : (y : Why) (w : ℕ) → definition base true seen p (drop p all) ≡ bad y w → left all de st ar d i a seen p ≡ stopped (number y) (w + beyond y)
-    refuses y w u = ap (outcome de st ar p d i a) (many-refuses endsFile rememberName (definition base true) seen p all y w inside (ne-eqb _ _ other) u)
+    refuses : (y : Why) (w : ℕ) → definition rules true seen p (drop p all) ≡ bad y w → left rules all de st ar d i a seen p ≡ stopped (number y) (w + beyond y)
+    refuses y w u = ap (outcome de st ar p d i a) (many-refuses endsFile rememberName (definition rules true) seen p all y w inside (ne-eqb _ _ other) u)
 
-    taken : (x : Definition) (k : ℕ) → topLevel base p (drop p all) ≡ got x k → repeats seen x ≡ false → definition base true seen p (drop p all) ≡ got x k
+    taken : (x : Definition) (k : ℕ) → topLevel rules p (drop p all) ≡ got x k → repeats seen x ≡ false → definition rules true seen p (drop p all) ≡ got x k
     unfolding definition checked
     taken x k e new = rw (e, new)
 
-    twice : (x : Definition) (k : ℕ) → topLevel base p (drop p all) ≡ got x k → repeats seen x ≡ true → definition base true seen p (drop p all) ≡ bad (plain DuplicateMacro) (x .name)
+    twice : (x : Definition) (k : ℕ) → topLevel rules p (drop p all) ≡ got x k → repeats seen x ≡ true → definition rules true seen p (drop p all) ≡ bad (plain DuplicateMacro) (x .name)
     unfolding definition checked
     twice x k e old = rw (e, old)
 
-    turned-away : (y : Why) (w : ℕ) → topLevel base p (drop p all) ≡ bad y w → definition base true seen p (drop p all) ≡ bad y w
+    turned-away : (y : Why) (w : ℕ) → topLevel rules p (drop p all) ≡ bad y w → definition rules true seen p (drop p all) ≡ bad y w
     unfolding definition checked
     turned-away y w e = rw e
 
@@ -176,7 +176,7 @@ module _ (all : List Token) (de st ar : List ℕ) (d i a : ℕ) (seen : List (Li
       Turn read = DefAdded all p i a size read d i a de st ar r de′ st′ ar′
 
       -- the definition is refused
-      pub refused : (read : Res Definition) (c q : ℕ) → topLevel base p (drop p all) ≡ read → Turn read → r ≡ defs.Refused c q → left all de st ar d i a seen p ≡ stopped c q
+      pub refused : (read : Res Definition) (c q : ℕ) → topLevel rules p (drop p all) ≡ read → Turn read → r ≡ defs.Refused c q → left rules all de st ar d i a seen p ≡ stopped c q
       refused (got x k) c q e h g = absurd (let z : _≡_ {A = ℕ} 0 1 = cc (h .is) in omega arith)
       refused (bad y w) c q e h g = refuses y w (turned-away y w e) ∙ cc (h .is)
 
@@ -199,8 +199,8 @@ module _ (all : List Token) (de st ar : List ℕ) (d i a : ℕ) (seen : List (Li
       kind-tells x k f n t e = sym (named-is (x .form)) ∙ ap (λ (f : code.Definition). isNamed (f .kind)) (t .found) ∙ e
 
       -- no macro, fn or test
-      pub other-found : (read : Res Definition) (f : code.Definition) (n : ℕ) → topLevel base p (drop p all) ≡ read → Turn read → r ≡ defs.Done f n → isNamed (f .kind) ≡ false
-          → left all de st ar d i a seen p ≡ left all de′ st′ ar′ (d + 1) (i + f .statements) (a + n) seen (f .end)
+      pub other-found : (read : Res Definition) (f : code.Definition) (n : ℕ) → topLevel rules p (drop p all) ≡ read → Turn read → r ≡ defs.Done f n → isNamed (f .kind) ≡ false
+          → left rules all de st ar d i a seen p ≡ left rules all de′ st′ ar′ (d + 1) (i + f .statements) (a + n) seen (f .end)
       other-found (got x k) f n e h g o =
           let t = told x k f n h g in
           let m = kind-tells x k f n t o in
@@ -210,10 +210,10 @@ module _ (all : List Token) (de st ar : List ℕ) (d i a : ℕ) (seen : List (Li
       other-found (bad y w) f n e h g o = absurd (let z : _≡_ {A = ℕ} 0 1 = cc (h .is) in omega arith)
 
       -- a macro, fn or test of a new name
-      pub macro-found : (read : Res Definition) (f : code.Definition) (n : ℕ) (seen′ : List (List ℕ)) → topLevel base p (drop p all) ≡ read → Turn read → r ≡ defs.Done f n → isNamed (f .kind) ≡ true
+      pub macro-found : (read : Res Definition) (f : code.Definition) (n : ℕ) (seen′ : List (List ℕ)) → topLevel rules p (drop p all) ≡ read → Turn read → r ≡ defs.Done f n → isNamed (f .kind) ≡ true
           → oneOf seen (tokenAt all (f .name) .text) ≡ false
           → seen′ ≡ tokenAt all (f .name) .text ∷ seen
-          → left all de st ar d i a seen p ≡ left all de′ st′ ar′ (d + 1) (i + f .statements) (a + n) seen′ (f .end)
+          → left rules all de st ar d i a seen p ≡ left rules all de′ st′ ar′ (d + 1) (i + f .statements) (a + n) seen′ (f .end)
       macro-found (got x k) f n seen′ e h g c o s =
           let t = told x k f n h g in
           let m = kind-tells x k f n t c in
@@ -225,9 +225,9 @@ module _ (all : List Token) (de st ar : List ℕ) (d i a : ℕ) (seen : List (Li
       macro-found (bad y w) f n seen′ e h g c o s = absurd (let z : _≡_ {A = ℕ} 0 1 = cc (h .is) in omega arith)
 
       -- a macro, fn or test of an earlier one's name
-      pub macro-repeats : (read : Res Definition) (f : code.Definition) (n : ℕ) → topLevel base p (drop p all) ≡ read → Turn read → r ≡ defs.Done f n → isNamed (f .kind) ≡ true
+      pub macro-repeats : (read : Res Definition) (f : code.Definition) (n : ℕ) → topLevel rules p (drop p all) ≡ read → Turn read → r ≡ defs.Done f n → isNamed (f .kind) ≡ true
           → oneOf seen (tokenAt all (f .name) .text) ≡ true
-          → left all de st ar d i a seen p ≡ stopped DuplicateMacro (f .name)
+          → left rules all de st ar d i a seen p ≡ stopped DuplicateMacro (f .name)
       macro-repeats (got x k) f n e h g c o =
           let t = told x k f n h g in
           let m = kind-tells x k f n t c in
@@ -266,16 +266,23 @@ module _ (de st ar de′ st′ ar′ : List ℕ) where
 
 -- ---- room for names
 
--- a local array of k zeros is room for n tokens
-pub roomy : (n k : ℕ) → n ≤ 8 * k → n ≤ 8 * length (replicate {A = ℕ} k 0)
-roomy n k h = rw length-replicate h
+-- local arrays of zeros, b of them buckets and k of them for names, are room for a kept list of so many tokens
+pub roomy : {words kept : List ℕ} (b k : ℕ) → FromDoor words kept → 1 ≤ b → length kept ≤ 8 * k → Readable words kept (replicate b 0) (replicate k 0) (replicate k 0)
+roomy b k list some h =
+    record {
+      list = list;
+      some = rw length-replicate some;
+      fresh = λ x lt. getD-replicate b x 0 0 (rw length-replicate at lt);
+      linked = rw length-replicate h;
+      placed = rw length-replicate h;
+    }
 
 -- ---- the loop of parse
 
 -- what is still to be read from place p comes to the whole reading; what is remembered of names; and bounds
-pub record Loop (text words kept de₀ st₀ ar₀ marks₀ places₀ hashes₀ de st ar marks places hashes : List ℕ) (p d i a m : ℕ) : Type 0 where
-  pub ends : left (view text words kept) de st ar d i a (namesAt (view text words kept) places m) p ≡ outcome de₀ st₀ ar₀ 0 0 0 0 (parse base true [] 0 (view text words kept))
-  pub noted : Noted (view text words kept) marks places hashes m
+pub record Loop (rules : Rules) (text words kept de₀ st₀ ar₀ heads₀ next₀ places₀ de st ar heads next places : List ℕ) (p d i a m : ℕ) : Type 0 where
+  pub ends : left rules (view text words kept) de st ar d i a (namesAt (view text words kept) places m) p ≡ outcome de₀ st₀ ar₀ 0 0 0 0 (parse rules true [] 0 (view text words kept))
+  pub noted : Noted (view text words kept) heads next places m
   pub inside : p ≤ length kept
   pub definitions : d ≤ p
   pub statements : i ≤ p
@@ -284,21 +291,17 @@ pub record Loop (text words kept de₀ st₀ ar₀ marks₀ places₀ hashes₀ 
   pub same-definitions : length de ≡ length de₀
   pub same-statements : length st ≡ length st₀
   pub same-arguments : length ar ≡ length ar₀
-  pub same-marks : length marks ≡ length marks₀
+  pub same-heads : length heads ≡ length heads₀
+  pub same-next : length next ≡ length next₀
   pub same-places : length places ≡ length places₀
-  pub same-hashes : length hashes ≡ length hashes₀
 
-pub loop-begins : (text words kept de st ar marks places hashes : List ℕ) → 2 ≤ length marks → Loop text words kept de st ar marks places hashes de st ar marks places hashes 0 0 0 0 0
-unfolding namesAt parse
-loop-begins text words kept de st ar marks places hashes some =
+pub loop-begins : (rules : Rules) (text words kept de st ar heads next places : List ℕ) → 1 ≤ length heads → ((b : ℕ) → b < length heads → getD heads b 0 ≡ 0) → Loop rules text words kept de st ar heads next places de st ar heads next places 0 0 0 0 0
+unfolding namesAt latest parse
+loop-begins rules text words kept de st ar heads next places some fresh =
     record {
       ends = refl;
       noted =
-          record {
-            names = record { placed = omega arith; stored = omega arith; hashed = λ j h. absurd (none j h) };
-            halves = some;
-            marked = λ _ j h. absurd (none j h);
-          };
+          record { placed = omega arith; linked = omega arith; some = some; head = fresh; link = λ j h. absurd (none j h) };
       inside = omega arith;
       definitions = omega arith;
       statements = omega arith;
@@ -307,40 +310,40 @@ loop-begins text words kept de st ar marks places hashes some =
       same-definitions = refl;
       same-statements = refl;
       same-arguments = refl;
-      same-marks = refl;
+      same-heads = refl;
+      same-next = refl;
       same-places = refl;
-      same-hashes = refl;
     }
   where
     none : (j : ℕ) → j < 0 → ⊥
     none j h = omega arith
 
-module _ {text words kept de₀ st₀ ar₀ marks₀ places₀ hashes₀ de st ar marks places hashes : List ℕ} {p d i a m : ℕ}
-    (loop : Loop text words kept de₀ st₀ ar₀ marks₀ places₀ hashes₀ de st ar marks places hashes p d i a m) where
+module _ {rules : Rules} {text words kept de₀ st₀ ar₀ heads₀ next₀ places₀ de st ar heads next places : List ℕ} {p d i a m : ℕ}
+    (loop : Loop rules text words kept de₀ st₀ ar₀ heads₀ next₀ places₀ de st ar heads next places p d i a m) where
   abbrev pub whole : Res (List Definition)
-  whole = parse base true [] 0 (view text words kept)
+  whole = parse rules true [] 0 (view text words kept)
 
   -- Eof
   pub loop-ends : {k : ℕ} → KindAt words kept p k → k ≡ 0 → p < length kept → FileParsed whole de₀ st₀ ar₀ (files.Done p d i a) de st ar
   loop-ends {k} kind e h =
       parsed-ended de₀ st₀ ar₀ de st ar whole p d i a
-      (sym (left-end (view text words kept) de st ar d i a (namesAt (view text words kept) places m) p (rw (view-length text words kept) h) (at-eof text words kept p k kind e)) ∙ loop .ends)
+      (sym (left-end rules (view text words kept) de st ar d i a (namesAt (view text words kept) places m) p (rw (view-length text words kept) h) (at-eof text words kept p k kind e)) ∙ loop .ends)
 
   -- past the end
   pub loop-runs-out : length kept ≤ p → FileParsed whole de₀ st₀ ar₀ (files.Refused UnexpectedType p) de st ar
   loop-runs-out h =
       parsed-stopped de₀ st₀ ar₀ de st ar whole UnexpectedType p
-      (sym (left-out (view text words kept) de st ar d i a (namesAt (view text words kept) places m) p (rw (view-length text words kept) h)) ∙ loop .ends)
+      (sym (left-out rules (view text words kept) de st ar d i a (namesAt (view text words kept) places m) p (rw (view-length text words kept) h)) ∙ loop .ends)
 
   module _ {k : ℕ} (kind : KindAt words kept p k) (some : k ≡ 0 → ⊥) {r : DefRead} {de′ st′ ar′ : List ℕ}
-      (turn : DefAdded (view text words kept) p i a (length kept) (topLevel base p (drop p (view text words kept))) d i a de st ar r de′ st′ ar′) where
+      (turn : DefAdded (view text words kept) p i a (length kept) (topLevel rules p (drop p (view text words kept))) d i a de st ar r de′ st′ ar′) where
     -- a refusal
     pub loop-refuses : (c q : ℕ) → r ≡ defs.Refused c q → FileParsed whole de₀ st₀ ar₀ (files.Refused c q) de′ st′ ar′
     loop-refuses c q g =
         parsed-stopped de₀ st₀ ar₀ de′ st′ ar′ whole c q
         (sym
-        (refused (view text words kept) de st ar d i a (namesAt (view text words kept) places m) p (in-view text words kept p k kind some) (not-eof text words kept p k kind some) (length kept) r de′ st′ ar′
-        (topLevel base p (drop p (view text words kept))) c q refl turn g)
+        (refused rules (view text words kept) de st ar d i a (namesAt (view text words kept) places m) p (in-view text words kept p k kind some) (not-eof text words kept p k kind some) (length kept) r de′ st′ ar′
+        (topLevel rules p (drop p (view text words kept))) c q refl turn g)
         ∙ loop .ends)
 
     module _ (f : code.Definition) (n : ℕ) (g : r ≡ defs.Done f n) where
@@ -350,13 +353,13 @@ module _ {text words kept de₀ st₀ ar₀ marks₀ places₀ hashes₀ de st a
       module _ (de-kept : length de′ ≡ length de) (st-kept : length st′ ≡ length st) (ar-kept : length ar′ ≡ length ar) where
         -- no macro, fn or test
         pub loop-other : isNamed (f .kind) ≡ false
-            → Loop text words kept de₀ st₀ ar₀ marks₀ places₀ hashes₀ de′ st′ ar′ marks places hashes (f .end) (d + 1) (i + f .statements) (a + n) m
+            → Loop rules text words kept de₀ st₀ ar₀ heads₀ next₀ places₀ de′ st′ ar′ heads next places (f .end) (d + 1) (i + f .statements) (a + n) m
         loop-other o =
             record {
               ends =
                   sym
-                  (other-found (view text words kept) de st ar d i a (namesAt (view text words kept) places m) p (in-view text words kept p k kind some) (not-eof text words kept p k kind some) (length kept) r de′ st′ ar′
-                  (topLevel base p (drop p (view text words kept))) f n refl turn g o)
+                  (other-found rules (view text words kept) de st ar d i a (namesAt (view text words kept) places m) p (in-view text words kept p k kind some) (not-eof text words kept p k kind some) (length kept) r de′ st′ ar′
+                  (topLevel rules p (drop p (view text words kept))) f n refl turn g o)
                   ∙ loop .ends;
               noted = loop .noted;
               inside = bounds .1;
@@ -367,25 +370,25 @@ module _ {text words kept de₀ st₀ ar₀ marks₀ places₀ hashes₀ de st a
               same-definitions = de-kept ∙ loop .same-definitions;
               same-statements = st-kept ∙ loop .same-statements;
               same-arguments = ar-kept ∙ loop .same-arguments;
-              same-marks = loop .same-marks;
+              same-heads = loop .same-heads;
               same-places = loop .same-places;
-              same-hashes = loop .same-hashes;
+              same-next = loop .same-next;
             }
 
         -- a macro, fn or test of a new name
-        pub loop-macro : isNamed (f .kind) ≡ true → {b : Bool} {marks′ places′ hashes′ : List ℕ}
-            → Checked (view text words kept) (tokenAt (view text words kept) (f .name) .text) places m b marks′ places′ hashes′ → b ≡ false
-            → length marks′ ≡ length marks → length places′ ≡ length places → length hashes′ ≡ length hashes
-            → Loop text words kept de₀ st₀ ar₀ marks₀ places₀ hashes₀ de′ st′ ar′ marks′ places′ hashes′ (f .end) (d + 1) (i + f .statements) (a + n) (m + 1)
-        loop-macro o {b} {marks′} {places′} {hashes′} told new x y z =
-            let noting : Noting false (view text words kept) (tokenAt (view text words kept) (f .name) .text) places m marks′ places′ hashes′ (suc m) = rw new at (told .then) in
+        pub loop-macro : isNamed (f .kind) ≡ true → {b : Bool} {heads′ next′ places′ : List ℕ}
+            → Checked (view text words kept) (tokenAt (view text words kept) (f .name) .text) places m b heads′ next′ places′ → b ≡ false
+            → length heads′ ≡ length heads → length next′ ≡ length next → length places′ ≡ length places
+            → Loop rules text words kept de₀ st₀ ar₀ heads₀ next₀ places₀ de′ st′ ar′ heads′ next′ places′ (f .end) (d + 1) (i + f .statements) (a + n) (m + 1)
+        loop-macro o {b} {heads′} {next′} {places′} told new x y z =
+            let noting : Noting false (view text words kept) (tokenAt (view text words kept) (f .name) .text) places m heads′ next′ places′ (suc m) = rw new at (told .then) in
             let long : (p + 8 ≤ f .end) × (f .name < f .end) = rw o at (bounds .4) in
             rw (add-one m)
             record {
               ends =
                   sym
-                  (macro-found (view text words kept) de st ar d i a (namesAt (view text words kept) places m) p (in-view text words kept p k kind some) (not-eof text words kept p k kind some) (length kept) r de′ st′ ar′
-                  (topLevel base p (drop p (view text words kept))) f n (namesAt (view text words kept) places′ (suc m)) refl turn g o (sym (told .is) ∙ new) (noting .1))
+                  (macro-found rules (view text words kept) de st ar d i a (namesAt (view text words kept) places m) p (in-view text words kept p k kind some) (not-eof text words kept p k kind some) (length kept) r de′ st′ ar′
+                  (topLevel rules p (drop p (view text words kept))) f n (namesAt (view text words kept) places′ (suc m)) refl turn g o (sym (told .is) ∙ new) (noting .1))
                   ∙ loop .ends;
               noted = noting .0;
               inside = bounds .1;
@@ -396,18 +399,18 @@ module _ {text words kept de₀ st₀ ar₀ marks₀ places₀ hashes₀ de st a
               same-definitions = de-kept ∙ loop .same-definitions;
               same-statements = st-kept ∙ loop .same-statements;
               same-arguments = ar-kept ∙ loop .same-arguments;
-              same-marks = x ∙ loop .same-marks;
-              same-places = y ∙ loop .same-places;
-              same-hashes = z ∙ loop .same-hashes;
+              same-heads = x ∙ loop .same-heads;
+              same-next = y ∙ loop .same-next;
+              same-places = z ∙ loop .same-places;
             }
 
       -- a macro, fn or test of an earlier one's name
-      pub loop-repeats : isNamed (f .kind) ≡ true → {b : Bool} {marks′ places′ hashes′ : List ℕ}
-          → Checked (view text words kept) (tokenAt (view text words kept) (f .name) .text) places m b marks′ places′ hashes′ → b ≡ true
+      pub loop-repeats : isNamed (f .kind) ≡ true → {b : Bool} {heads′ next′ places′ : List ℕ}
+          → Checked (view text words kept) (tokenAt (view text words kept) (f .name) .text) places m b heads′ next′ places′ → b ≡ true
           → FileParsed whole de₀ st₀ ar₀ (files.Refused DuplicateMacro (f .name)) de′ st′ ar′
       loop-repeats o told old =
           parsed-stopped de₀ st₀ ar₀ de′ st′ ar′ whole DuplicateMacro (f .name)
           (sym
-          (macro-repeats (view text words kept) de st ar d i a (namesAt (view text words kept) places m) p (in-view text words kept p k kind some) (not-eof text words kept p k kind some) (length kept) r de′ st′ ar′
-          (topLevel base p (drop p (view text words kept))) f n refl turn g o (sym (told .is) ∙ old))
+          (macro-repeats rules (view text words kept) de st ar d i a (namesAt (view text words kept) places m) p (in-view text words kept p k kind some) (not-eof text words kept p k kind some) (length kept) r de′ st′ ar′
+          (topLevel rules p (drop p (view text words kept))) f n refl turn g o (sym (told .is) ∙ old))
           ∙ loop .ends)

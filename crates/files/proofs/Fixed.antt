@@ -12,7 +12,7 @@ use Rattle.grammar.specs.FileReading.{Definition}
 use Rattle.grammar.specs.FileRecords.{definitionRecords, fileStatements, fileArgumentRecords}
 use Rattle.files.specs.declared.file.FileRead.{FileRead}
 use Rattle.files.specs.declared.entry.File.{File}
-use Rattle.files.specs.declared.entry.File.the-variants.{NotWellFormed, KeptTooShort, Refused, DefinitionsTooSmall, StatementsTooSmall, ArgumentsTooSmall, Read}
+use Rattle.files.specs.declared.entry.File.the-variants.{UnknownMode, NotWellFormed, KeptTooShort, Refused, DefinitionsTooSmall, StatementsTooSmall, ArgumentsTooSmall, Read}
 use Rattle.files.specs.Answers.{FileParsed}
 use Rattle.files.specs.Call.{values, numberOf, Own, fileReading, FileCall}
 
@@ -26,6 +26,7 @@ one-file-answer r r′ o o′ e = sym (again r o) ∙ ap told e ∙ again r′ o
     told v =
         choose (
         (0, Read (getD v 1 0) (getD v 2 0) (getD v 3 0) (getD v 4 0))
+        ∷ (number.UnknownMode, UnknownMode)
         ∷ (number.NotWellFormed, NotWellFormed (getD v 1 0))
         ∷ (number.KeptTooShort, KeptTooShort (getD v 1 0))
         ∷ (number.DefinitionsTooSmall, DefinitionsTooSmall (getD v 1 0))
@@ -35,11 +36,13 @@ one-file-answer r r′ o o′ e = sym (again r o) ∙ ap told e ∙ again r′ o
         (Refused (getD v 0 0) (getD v 1 0)) (getD v 0 0)
 
     again : (r : File) → Own r → told (values r) ≡ r
+    again UnknownMode o = refl
     again (NotWellFormed at) o = refl
     again (KeptTooShort count) o = refl
     again (Refused c q) o =
         rw (
           ne-eqb c 0 (λ e. omega (arith, o .0)),
+          ne-eqb c 36 (λ e. omega (arith, o .1)),
           ne-eqb c 30 (λ e. omega (arith, o .1)),
           ne-eqb c 35 (λ e. omega (arith, o .1)),
           ne-eqb c 32 (λ e. omega (arith, o .1)),
@@ -52,17 +55,17 @@ one-file-answer r r′ o o′ e = sym (again r o) ∙ ap told e ∙ again r′ o
     again (Read cursor d s n) o = refl
 
 -- the promise of `read_file`: its answer, and all that is lent
-pub one-call : {text words kept de st ar : List ℕ} {r r′ : File} {k k′ d d′ s s′ a a′ : List ℕ}
-    → FileCall text words kept de st ar r k d s a
-    → FileCall text words kept de st ar r′ k′ d′ s′ a′
+pub one-call : {mode : ℕ} {text words kept de st ar : List ℕ} {r r′ : File} {k k′ d d′ s s′ a a′ : List ℕ}
+    → FileCall mode text words kept de st ar r k d s a
+    → FileCall mode text words kept de st ar r′ k′ d′ s′ a′
     → (r ≡ r′) × (k ≡ k′) × (d ≡ d′) × (s ≡ s′) × (a ≡ a′)
-one-call {text} {words} {de = de} {st = st} {ar = ar} {r = r} {r′ = r′} m n =
+one-call {mode} {text} {words} {de = de} {st = st} {ar = ar} {r = r} {r′ = r′} m n =
     let same = one-file-answer r r′ (m .own) (n .own) (m .answer ∙ sym (n .answer)) in (
       same,
       m .list ∙ sym (n .list),
-      m .definitionsHold ∙ ap (λ (x : File). heldAfter (numberOf x) (recordsOf (definitionRecords 0 0) (fileReading text words)) de) same ∙ sym (n .definitionsHold),
-      m .statementsHold ∙ ap (λ (x : File). heldAfter (numberOf x) (recordsOf (fileStatements 0 0) (fileReading text words)) st) same ∙ sym (n .statementsHold),
-      m .argumentsHold ∙ ap (λ (x : File). heldAfter (numberOf x) (recordsOf fileArgumentRecords (fileReading text words)) ar) same ∙ sym (n .argumentsHold),
+      m .definitionsHold ∙ ap (λ (x : File). heldAfter (numberOf x) (recordsOf (definitionRecords 0 0) (fileReading mode text words)) de) same ∙ sym (n .definitionsHold),
+      m .statementsHold ∙ ap (λ (x : File). heldAfter (numberOf x) (recordsOf (fileStatements 0 0) (fileReading mode text words)) st) same ∙ sym (n .statementsHold),
+      m .argumentsHold ∙ ap (λ (x : File). heldAfter (numberOf x) (recordsOf fileArgumentRecords (fileReading mode text words)) ar) same ∙ sym (n .argumentsHold),
     )
 
 -- of `parse` and `read_definitions` the same

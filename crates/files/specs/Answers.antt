@@ -1,8 +1,8 @@
 -- Inner: how the code's answers and tables hold what the file's reader reads.
-use Prim.Native.Nat.{ℕ, _+_, _*_, _≤_}
+use Prim.Native.Nat.{ℕ, _+_, _*_, _≤_, _<_}
 use mathlib.Core.Path.{_≡_}
 use mathlib.Core.List.{List}
-use lib.ListN.{length}
+use lib.ListN.{length, getD}
 use Rattle.tokens.specs.Number.{definitionWidth, statementWidth, argumentWidth}
 use Rattle.tokens.specs.Place.{FromDoor}
 use Rattle.grammar.specs.Result.{number, beyond, Res, got, bad}
@@ -12,12 +12,14 @@ use Rattle.grammar.specs.FileRecords.{definitionRecords, fileStatements, fileAr
 use Rattle.files.specs.declared.file.FileRead.{FileRead}
 use Rattle.files.specs.declared.file.FileRead.the-variants as files
 
--- what reading a file needs: the kept list as the door promises it, and room for the names of macros, fns and tests, each of which takes at least eight tokens
-pub record Readable (words kept marks places hashes : List ℕ) : Type 0 where
+-- what reading a file needs: the kept list as the door promises it, and room for the names of macros, fns and tests, each of which takes at least eight tokens, with
+-- none remembered yet
+pub record Readable (words kept heads next places : List ℕ) : Type 0 where
   pub list : FromDoor words kept
-  pub halves : 2 ≤ length marks
+  pub some : 1 ≤ length heads
+  pub fresh : (b : ℕ) → b < length heads → getD heads b 0 ≡ 0
+  pub linked : length kept ≤ 8 * length next
   pub placed : length kept ≤ 8 * length places
-  pub stored : length kept ≤ 8 * length hashes
 
 -- the place of Eof and the three counts
 abbrev pub fileRead : Res (List Definition) → FileRead

@@ -1,4 +1,4 @@
--- The promise of `read_file`: document 01's answer, and what every lent thing holds afterwards.
+-- The promise of `read_file`: the answer by document 01 and the requests that are done, and what every lent thing holds afterwards.
 use Prim.Native.Nat.{ℕ, _/_}
 use mathlib.Core.Path.{_≡_}
 use mathlib.Core.Bool.{true, cond}
@@ -8,18 +8,19 @@ use lib.Dec.{ltb}
 use Rattle.tokens.specs.Number as number
 use Rattle.tokens.specs.Number.{definitionWidth, statementWidth, argumentWidth}
 use Rattle.tokens.specs.Kept.{keptTokens}
-use Rattle.tokens.specs.Door.{door, keptAfter}
+use Rattle.tokens.specs.Door.{keptAfter}
 use Rattle.grammar.specs.Result.{Answer, read, refused}
-use Rattle.grammar.specs.Rules.{base}
+use Rattle.grammar.specs.Rules.{rulesOf}
 use Rattle.grammar.specs.FileReading.{Definition}
 use Rattle.grammar.specs.FileReader.{fileAt}
 use Rattle.grammar.specs.FileRecords.{definitionRecords, fileStatements, fileArguments, fileArgumentRecords, fileStatementCount}
-use Rattle.grammar.specs.Call.{ReadingNumber, refusal, fileNumbers, afterDoor, recordsOf, heldAfter}
+use Rattle.grammar.specs.Call.{ReadingNumber, refusal, fileNumbers, entrance, afterDoor, recordsOf, heldAfter}
 use Rattle.files.specs.declared.entry.File.{File}
-use Rattle.files.specs.declared.entry.File.the-variants.{NotWellFormed, KeptTooShort, Refused, DefinitionsTooSmall, StatementsTooSmall, ArgumentsTooSmall, Read}
+use Rattle.files.specs.declared.entry.File.the-variants.{UnknownMode, NotWellFormed, KeptTooShort, Refused, DefinitionsTooSmall, StatementsTooSmall, ArgumentsTooSmall, Read}
 
 -- document 01's five numbers for each answer: number, cursor, definitions, statements, arguments
 abbrev pub values : File → List ℕ
+values UnknownMode = refusal number.UnknownMode 0
 values (NotWellFormed at) = refusal number.NotWellFormed at
 values (KeptTooShort count) = refusal number.KeptTooShort count
 values (Refused c q) = refusal c q
@@ -34,6 +35,7 @@ numberOf r = getD (values r) 0 0
 
 -- `Refused` is for the reading's own numbers, and no other answer has one of these: so the five numbers tell the answer
 abbrev pub Own : File → Type 0
+Own UnknownMode = Unit {0}
 Own (NotWellFormed at) = Unit {0}
 Own (KeptTooShort count) = Unit {0}
 Own (Refused c q) = ReadingNumber c
@@ -42,7 +44,7 @@ Own (StatementsTooSmall need) = Unit {0}
 Own (ArgumentsTooSmall need) = Unit {0}
 Own (Read cursor definitions statements arguments) = Unit {0}
 
--- the first of 1 to 21 in reading order; for an accepted file 32, else 33, else 34, if a table's whole records are fewer than needed
+-- the first of 1 to 22 in reading order; for an accepted file 32, else 33, else 34, if a table's whole records are fewer than needed
 unfoldable pub afterReading : Answer (List Definition) → ℕ → ℕ → ℕ → List ℕ
 afterReading (refused c q) definitions statements arguments = fileNumbers (refused c q)
 afterReading (read ds n) definitions statements arguments =
@@ -51,20 +53,20 @@ afterReading (read ds n) definitions statements arguments =
     (cond (ltb (arguments / argumentWidth) (length (fileArguments ds))) (refusal number.ArgumentsTooSmall (length (fileArguments ds)))
     (fileNumbers (read ds n))))
 
--- what the reader answers for the kept tokens, with the rule on names
-abbrev pub fileReading : List ℕ → List ℕ → Answer (List Definition)
-fileReading text words = fileAt base true (keptTokens text words)
+-- what the reader answers in a mode for the kept tokens, with the rule on the names of macros, fns and tests
+abbrev pub fileReading : ℕ → List ℕ → List ℕ → Answer (List Definition)
+fileReading mode text words = fileAt (rulesOf mode) true (keptTokens text words)
 
--- 30, 35, then the reading. From start 0 the door never gives 31 (`file-not-31`)
-abbrev pub fileAnswered : List ℕ → List ℕ → ℕ → ℕ → ℕ → ℕ → List ℕ
-fileAnswered text words kept definitions statements arguments =
-    afterDoor (door text words 0 kept) (afterReading (fileReading text words) definitions statements arguments)
+-- 36, 30, 35, then the reading. From start 0 the door never gives 31 (`file-not-31`)
+abbrev pub fileAnswered : ℕ → List ℕ → List ℕ → ℕ → ℕ → ℕ → ℕ → List ℕ
+fileAnswered mode text words kept definitions statements arguments =
+    afterDoor (entrance mode text words 0 kept) (afterReading (fileReading mode text words) definitions statements arguments)
 
 -- the promise: the answer r by its numbers, and the kept list and the three tables afterwards
-pub record FileCall (text words kept definitions statements arguments : List ℕ) (r : File) (kept′ definitions′ statements′ arguments′ : List ℕ) : Type 0 where
-  pub answer : values r ≡ fileAnswered text words (length kept) (length definitions) (length statements) (length arguments)
+pub record FileCall (mode : ℕ) (text words kept definitions statements arguments : List ℕ) (r : File) (kept′ definitions′ statements′ arguments′ : List ℕ) : Type 0 where
+  pub answer : values r ≡ fileAnswered mode text words (length kept) (length definitions) (length statements) (length arguments)
   pub own : Own r
-  pub list : kept′ ≡ keptAfter (door text words 0 (length kept) .0) words kept
-  pub definitionsHold : definitions′ ≡ heldAfter (numberOf r) (recordsOf (definitionRecords 0 0) (fileReading text words)) definitions
-  pub statementsHold : statements′ ≡ heldAfter (numberOf r) (recordsOf (fileStatements 0 0) (fileReading text words)) statements
-  pub argumentsHold : arguments′ ≡ heldAfter (numberOf r) (recordsOf fileArgumentRecords (fileReading text words)) arguments
+  pub list : kept′ ≡ keptAfter (entrance mode text words 0 (length kept) .0) words kept
+  pub definitionsHold : definitions′ ≡ heldAfter (numberOf r) (recordsOf (definitionRecords 0 0) (fileReading mode text words)) definitions
+  pub statementsHold : statements′ ≡ heldAfter (numberOf r) (recordsOf (fileStatements 0 0) (fileReading mode text words)) statements
+  pub argumentsHold : arguments′ ≡ heldAfter (numberOf r) (recordsOf fileArgumentRecords (fileReading mode text words)) arguments

@@ -11,7 +11,7 @@ ghost use mathlib.Core.Bool.{true};
 ghost use lib.ListN.{length, replicate};
 ghost use Rattle.tokens.specs.Lent.{clearedBehind};
 ghost use Rattle.tokens.specs.Token.{view};
-ghost use Rattle.grammar.specs.Rules.{base};
+ghost use Rattle.grammar.specs.Rules.{asks};
 ghost use Rattle.grammar.specs.FileReader.{fileAt};
 ghost use Rattle.tokens.specs.Number.{definitionWidth, statementWidth, argumentWidth};
 ghost use Rattle.tokens.specs.Place.{FromDoor};
@@ -20,10 +20,12 @@ ghost use Rattle.files.specs.Taken.{FileTaken};
 
 // What a file call answers.
 pub enum File {
+    // 36: there is no such mode.
+    UnknownMode,
     // 30 and 35, at the door.
     NotWellFormed(usize),
     KeptTooShort(usize),
-    // 1 to 21: number and cursor.
+    // 1 to 22: number and cursor.
     Refused(u32, usize),
     // 32, 33 and 34: the records needed.
     DefinitionsTooSmall(usize),
@@ -62,21 +64,30 @@ fn clear_rest(
     clear_behind(arguments, a, number::ARGUMENT_WIDTH);
 }
 
-// The file of the kept tokens: 1 to 21, then 32, 33, 34. A table that is too small is told only now, since its whole need is the cursor.
+// The file of the kept tokens: 1 to 22, then 32, 33, 34. A table that is too small is told only now, since its whole need is the cursor.
 fn read_kept(
     text: &[u8],
     tokens: &[u32],
     kept: &[u32],
+    strict: bool,
     definitions: &mut [u32],
     statements: &mut [u32],
     arguments: &mut [u32],
 ) -> File
     requires { ⌜ FromDoor (now tokens) (now kept) ⌝ }
-    ensures { λ r. ⌜ FileTaken (fileAt base true (view (now (text .entry)) (now (tokens .entry)) (now (kept .entry))))
+    ensures { λ r. ⌜ FileTaken (fileAt (asks strict) true (view (now (text .entry)) (now (tokens .entry)) (now (kept .entry))))
         (now (definitions .entry)) (now (statements .entry)) (now (arguments .entry)) r
         (now (definitions .exit)) (now (statements .exit)) (now (arguments .exit)) ⌝ }
 {
-    match read_definitions(text, tokens, kept, definitions, statements, arguments) {
+    match read_definitions(
+        text,
+        tokens,
+        kept,
+        strict,
+        definitions,
+        statements,
+        arguments,
+    ) {
         FileRead::Refused(c, q) => {
             clear_all(definitions, statements, arguments);
             File::Refused(c, q)
@@ -100,8 +111,9 @@ fn read_kept(
     }
 }
 
-// Reads a whole file. Nothing is asked of what is lent.
+// Reads a whole file, its bodies strictly if the mode is 1. Nothing is asked of what is lent.
 pub fn read_file(
+    mode: u32,
     text: &[u8],
     tokens: &[u32],
     kept: &mut [u32],
@@ -109,9 +121,12 @@ pub fn read_file(
     statements: &mut [u32],
     arguments: &mut [u32],
 ) -> File
-    ensures { λ r. ⌜ FileCall (now (text .entry)) (now (tokens .entry)) (now (kept .entry)) (now (definitions .entry)) (now (statements .entry))
+    ensures { λ r. ⌜ FileCall mode (now (text .entry)) (now (tokens .entry)) (now (kept .entry)) (now (definitions .entry)) (now (statements .entry))
         (now (arguments .entry)) r (now (kept .exit)) (now (definitions .exit)) (now (statements .exit)) (now (arguments .exit)) ⌝ }
 {
+    if number::MODE_STRICT < mode {
+        return File::UnknownMode;
+    }
     match prepare(text, tokens, 0, kept) {
         Door::NotWellFormed(at) => File::NotWellFormed(at),
         Door::KeptTooShort(count) => File::KeptTooShort(count),
@@ -121,6 +136,7 @@ pub fn read_file(
             text,
             tokens,
             &kept[0..count],
+            mode == number::MODE_STRICT,
             definitions,
             statements,
             arguments,

@@ -12,7 +12,7 @@ ghost use lib.ListN.{length};
 ghost use mathlib.Core.List.{[]};
 ghost use mathlib.Core.Bool.{true};
 ghost use Rattle.tokens.specs.Token.{view};
-ghost use Rattle.grammar.specs.Rules.{base};
+ghost use Rattle.grammar.specs.Rules.{asks};
 ghost use Rattle.grammar.specs.FileReader as reader;
 ghost use Rattle.tokens.specs.Place.{FromDoor, tokensFrom};
 ghost use Rattle.files.specs.Answers.{Readable, FileParsed};
@@ -24,17 +24,17 @@ const FEW_TOKENS: usize = 1536;
 
 const FEW_NAMES: usize = 192;
 
-const FEW_MARKS: usize = 512;
+const FEW_BUCKETS: usize = 256;
 
 const SOME_TOKENS: usize = 12288;
 
 const SOME_NAMES: usize = 1536;
 
-const SOME_MARKS: usize = 4096;
+const SOME_BUCKETS: usize = 2048;
 
 const MANY_NAMES: usize = 8192;
 
-const MANY_MARKS: usize = 16384;
+const MANY_BUCKETS: usize = 8192;
 
 // The place of Eof, and the definition, statement and argument records; or a refusal's number and cursor.
 pub enum FileRead {
@@ -47,6 +47,7 @@ fn next_definition(
     text: &[u8],
     tokens: &[u32],
     kept: &[u32],
+    strict: bool,
     p: usize,
     definitions: &mut [u32],
     statements: &mut [u32],
@@ -57,7 +58,7 @@ fn next_definition(
 ) -> DefRead
     requires { ⌜ Reading (now tokens) (now kept) p p i a ⌝ }
     ensures { λ r. ⌜ DefAdded (view (now (text .entry)) (now (tokens .entry)) (now (kept .entry))) p i a (length (now (kept .entry)))
-        (reader.topLevel base p (tokensFrom (now (text .entry)) (now (tokens .entry)) (now (kept .entry)) p)) d i a
+        (reader.topLevel (asks strict) p (tokensFrom (now (text .entry)) (now (tokens .entry)) (now (kept .entry)) p)) d i a
         (now (definitions .entry)) (now (statements .entry)) (now (arguments .entry)) r
         (now (definitions .exit)) (now (statements .exit)) (now (arguments .exit)) ⌝ }
 {
@@ -68,6 +69,7 @@ fn next_definition(
         text,
         tokens,
         kept,
+        strict,
         p,
         &mut definitions[x..],
         &mut statements[y..],
@@ -77,20 +79,21 @@ fn next_definition(
     )
 }
 
-// Definitions up to Eof. marks, places and hashes are room for the names of macros, fns and tests.
+// Definitions up to Eof. heads, next and places are room for the names of macros, fns and tests.
 fn parse(
     text: &[u8],
     tokens: &[u32],
     kept: &[u32],
+    strict: bool,
     definitions: &mut [u32],
     statements: &mut [u32],
     arguments: &mut [u32],
-    marks: &mut [u8],
-    places: &mut [u32],
-    hashes: &mut [u32],
+    heads: &mut [u16],
+    next: &mut [u16],
+    places: &mut [u16],
 ) -> FileRead
-    requires { ⌜ Readable (now tokens) (now kept) (now marks) (now places) (now hashes) ⌝ }
-    ensures { λ r. ⌜ FileParsed (reader.parse base true [] 0 (view (now (text .entry)) (now (tokens .entry)) (now (kept .entry))))
+    requires { ⌜ Readable (now tokens) (now kept) (now heads) (now next) (now places) ⌝ }
+    ensures { λ r. ⌜ FileParsed (reader.parse (asks strict) true [] 0 (view (now (text .entry)) (now (tokens .entry)) (now (kept .entry))))
         (now (definitions .entry)) (now (statements .entry)) (now (arguments .entry)) r
         (now (definitions .exit)) (now (statements .exit)) (now (arguments .exit)) ⌝ }
 {
@@ -111,6 +114,7 @@ fn parse(
             text,
             tokens,
             kept,
+            strict,
             p,
             definitions,
             statements,
@@ -129,7 +133,7 @@ fn parse(
                 p = f.end as usize;
                 if is_named(f.kind) {
                     let name = f.name as usize;
-                    if check_duplicate(text, tokens, kept, name, marks, places, hashes, m) {
+                    if check_duplicate(text, tokens, kept, name, heads, next, places, m) {
                         return FileRead::Refused(number::DUPLICATE_MACRO, name);
                     }
                     m += 1;
@@ -145,29 +149,31 @@ fn parse_few(
     text: &[u8],
     tokens: &[u32],
     kept: &[u32],
+    strict: bool,
     definitions: &mut [u32],
     statements: &mut [u32],
     arguments: &mut [u32],
 ) -> FileRead
     requires { ⌜ FromDoor (now tokens) (now kept) ⌝ }
     requires { ⌜ length (now kept) ≤ 1536 ⌝ }
-    ensures { λ r. ⌜ FileParsed (reader.parse base true [] 0 (view (now (text .entry)) (now (tokens .entry)) (now (kept .entry))))
+    ensures { λ r. ⌜ FileParsed (reader.parse (asks strict) true [] 0 (view (now (text .entry)) (now (tokens .entry)) (now (kept .entry))))
         (now (definitions .entry)) (now (statements .entry)) (now (arguments .entry)) r
         (now (definitions .exit)) (now (statements .exit)) (now (arguments .exit)) ⌝ }
 {
-    let mut marks = [0u8; FEW_MARKS];
-    let mut places = [0u32; FEW_NAMES];
-    let mut hashes = [0u32; FEW_NAMES];
+    let mut heads = [0u16; FEW_BUCKETS];
+    let mut next = [0u16; FEW_NAMES];
+    let mut places = [0u16; FEW_NAMES];
     parse(
         text,
         tokens,
         kept,
+        strict,
         definitions,
         statements,
         arguments,
-        &mut marks,
+        &mut heads,
+        &mut next,
         &mut places,
-        &mut hashes,
     )
 }
 
@@ -176,29 +182,31 @@ fn parse_some(
     text: &[u8],
     tokens: &[u32],
     kept: &[u32],
+    strict: bool,
     definitions: &mut [u32],
     statements: &mut [u32],
     arguments: &mut [u32],
 ) -> FileRead
     requires { ⌜ FromDoor (now tokens) (now kept) ⌝ }
     requires { ⌜ length (now kept) ≤ 12288 ⌝ }
-    ensures { λ r. ⌜ FileParsed (reader.parse base true [] 0 (view (now (text .entry)) (now (tokens .entry)) (now (kept .entry))))
+    ensures { λ r. ⌜ FileParsed (reader.parse (asks strict) true [] 0 (view (now (text .entry)) (now (tokens .entry)) (now (kept .entry))))
         (now (definitions .entry)) (now (statements .entry)) (now (arguments .entry)) r
         (now (definitions .exit)) (now (statements .exit)) (now (arguments .exit)) ⌝ }
 {
-    let mut marks = [0u8; SOME_MARKS];
-    let mut places = [0u32; SOME_NAMES];
-    let mut hashes = [0u32; SOME_NAMES];
+    let mut heads = [0u16; SOME_BUCKETS];
+    let mut next = [0u16; SOME_NAMES];
+    let mut places = [0u16; SOME_NAMES];
     parse(
         text,
         tokens,
         kept,
+        strict,
         definitions,
         statements,
         arguments,
-        &mut marks,
+        &mut heads,
+        &mut next,
         &mut places,
-        &mut hashes,
     )
 }
 
@@ -207,28 +215,30 @@ fn parse_many(
     text: &[u8],
     tokens: &[u32],
     kept: &[u32],
+    strict: bool,
     definitions: &mut [u32],
     statements: &mut [u32],
     arguments: &mut [u32],
 ) -> FileRead
     requires { ⌜ FromDoor (now tokens) (now kept) ⌝ }
-    ensures { λ r. ⌜ FileParsed (reader.parse base true [] 0 (view (now (text .entry)) (now (tokens .entry)) (now (kept .entry))))
+    ensures { λ r. ⌜ FileParsed (reader.parse (asks strict) true [] 0 (view (now (text .entry)) (now (tokens .entry)) (now (kept .entry))))
         (now (definitions .entry)) (now (statements .entry)) (now (arguments .entry)) r
         (now (definitions .exit)) (now (statements .exit)) (now (arguments .exit)) ⌝ }
 {
-    let mut marks = [0u8; MANY_MARKS];
-    let mut places = [0u32; MANY_NAMES];
-    let mut hashes = [0u32; MANY_NAMES];
+    let mut heads = [0u16; MANY_BUCKETS];
+    let mut next = [0u16; MANY_NAMES];
+    let mut places = [0u16; MANY_NAMES];
     parse(
         text,
         tokens,
         kept,
+        strict,
         definitions,
         statements,
         arguments,
-        &mut marks,
+        &mut heads,
+        &mut next,
         &mut places,
-        &mut hashes,
     )
 }
 
@@ -237,20 +247,45 @@ pub fn read_definitions(
     text: &[u8],
     tokens: &[u32],
     kept: &[u32],
+    strict: bool,
     definitions: &mut [u32],
     statements: &mut [u32],
     arguments: &mut [u32],
 ) -> FileRead
     requires { ⌜ FromDoor (now tokens) (now kept) ⌝ }
-    ensures { λ r. ⌜ FileParsed (reader.parse base true [] 0 (view (now (text .entry)) (now (tokens .entry)) (now (kept .entry))))
+    ensures { λ r. ⌜ FileParsed (reader.parse (asks strict) true [] 0 (view (now (text .entry)) (now (tokens .entry)) (now (kept .entry))))
         (now (definitions .entry)) (now (statements .entry)) (now (arguments .entry)) r
         (now (definitions .exit)) (now (statements .exit)) (now (arguments .exit)) ⌝ }
 {
     if kept.len() <= FEW_TOKENS {
-        return parse_few(text, tokens, kept, definitions, statements, arguments);
+        return parse_few(
+            text,
+            tokens,
+            kept,
+            strict,
+            definitions,
+            statements,
+            arguments,
+        );
     }
     if kept.len() <= SOME_TOKENS {
-        return parse_some(text, tokens, kept, definitions, statements, arguments);
+        return parse_some(
+            text,
+            tokens,
+            kept,
+            strict,
+            definitions,
+            statements,
+            arguments,
+        );
     }
-    parse_many(text, tokens, kept, definitions, statements, arguments)
+    parse_many(
+        text,
+        tokens,
+        kept,
+        strict,
+        definitions,
+        statements,
+        arguments,
+    )
 }

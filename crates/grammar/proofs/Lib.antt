@@ -11,6 +11,7 @@ pub mod Places
 pub mod Stops
 pub mod Cases
 pub mod AtPlace
+pub mod NamesOnce
 pub mod FileCases
 pub mod FileHolds
 pub mod FileTyped

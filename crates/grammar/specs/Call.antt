@@ -4,7 +4,9 @@ use mathlib.Core.Bool.{cond, _||_}
 use mathlib.Core.List.{List, [], _∷_, _++_, flatten}
 use lib.ListN.{length, replicate}
 use lib.Dec.{eqb}
-use Rattle.tokens.specs.Number.{NotWellFormed, StartOutside, KeptTooShort}
+use Rattle.tokens.specs.Number.{NotWellFormed, StartOutside, KeptTooShort, UnknownMode}
+use Rattle.tokens.specs.Door.{door}
+use Rattle.grammar.specs.Rules.{isMode}
 use Rattle.grammar.specs.Reading.{Reading}
 use Rattle.grammar.specs.Records.{statementCount, argumentCount}
 use Rattle.grammar.specs.PlainLength.{plainLength}
@@ -30,7 +32,12 @@ abbrev pub fileNumbers : Answer (List Definition) → List ℕ
 fileNumbers (read ds n) = 0 ∷ n ∷ length ds ∷ fileStatementCount ds ∷ length (fileArguments ds) ∷ []
 fileNumbers (refused c q) = refusal c q
 
--- the door's number and cursor, 30, 35 or 31; let through, what the call answers then
+-- number and cursor of a call that is turned away before it reads: 36 for a mode that there is not, "before 30", cursor 0; then the door's 30, 35 and 31; let
+-- through, 0 and the kept count
+abbrev pub entrance : ℕ → List ℕ → List ℕ → ℕ → ℕ → ℕ × ℕ
+entrance mode text words start room = cond (isMode mode) (door text words start room) (UnknownMode, 0)
+
+-- that number and cursor; let through, what the call answers then
 abbrev pub afterDoor : ℕ × ℕ → List ℕ → List ℕ
 afterDoor said then = cond (eqb (said .0) 0) then (refusal (said .0) (said .1))
 
@@ -43,9 +50,9 @@ recordsOf records (refused c q) = []
 abbrev pub filled : ℕ → List (List ℕ) → List ℕ
 filled size rs = flatten rs ++ replicate (size - length (flatten rs)) 0
 
--- what a table holds after a call with this number: after 30, 31 and 35 "nothing lent has changed"; accepted, "the records followed by zeros"; "after a
+-- what a table holds after a call with this number: after 30, 31, 35 and 36 "nothing lent has changed"; accepted, "the records followed by zeros"; "after a
 -- refusal only zeros"
 unfoldable pub heldAfter : ℕ → List (List ℕ) → List ℕ → List ℕ
 heldAfter c rs lent =
-    cond (eqb c NotWellFormed || eqb c StartOutside || eqb c KeptTooShort) lent
+    cond (eqb c NotWellFormed || eqb c StartOutside || eqb c KeptTooShort || eqb c UnknownMode) lent
     (cond (eqb c 0) (filled (length lent) rs) (filled (length lent) []))

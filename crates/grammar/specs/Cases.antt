@@ -1,4 +1,5 @@
--- Document 01, "Bodies and files on both sides": the rows marked P, input and answer side by side, and further bodies. Eof follows each body.
+-- Document 01, "Bodies and files on both sides": the rows marked P, input and answer side by side, further bodies, and those of request [1]. Eof follows
+-- each body.
 use Prim.Native.Nat.{ℕ, suc}
 use Prim.Native.String.{String}
 use mathlib.Core.List.{List, [], _∷_, _++_}
@@ -208,4 +209,33 @@ others =
     ∷ refusedRow (word Label "go" ∷ []) 1 2
     ∷ refusedRow (word Label "go" ∷ mark Colon ∷ mark Colon ∷ []) 6 3
     ∷ refusedRow (mark Colon ∷ []) 5 1
+    ∷ []
+
+-- request [1]: bodies in mode 1
+abbrev pub strictRows : List Row
+strictRows =
+    -- { go : PUSH1 }, { go : PUSH1 0x0100 }: a label's push asks for its literal as a plain one does
+    refusedRow (word Label "go" ∷ mark Colon ∷ PUSH1 ∷ []) 4 4
+    ∷ refusedRow (word Label "go" ∷ mark Colon ∷ PUSH1 ∷ word Literal "0x0100" ∷ []) 4 5
+    -- { go : PUSH1 0x01 }
+    ∷ acceptedRow (word Label "go" ∷ mark Colon ∷ PUSH1 ∷ word Literal "0x01" ∷ []) (6 ∷ 3 ∷ 0 ∷ 3 ∷ [])
+    ((5 ∷ 1 ∷ 5 ∷ 1 ∷ 2 ∷ 0 ∷ 0 ∷ 1 ∷ []) ∷ (2 ∷ 3 ∷ 4 ∷ 2 ∷ 0 ∷ 0 ∷ 0 ∷ 3 ∷ []) ∷ (1 ∷ 4 ∷ 5 ∷ 3 ∷ 0 ∷ 0 ∷ 0 ∷ 4 ∷ []) ∷ [])
+    []
+    -- { a : b : a : }: the third label, not its Colon, and not only where the two stand side by side
+    ∷ refusedRow (word Label "a" ∷ mark Colon ∷ word Label "b" ∷ mark Colon ∷ word Label "a" ∷ mark Colon ∷ []) 22 5
+    -- { a : a }, both Label: before the Colon is asked for
+    ∷ refusedRow (word Label "a" ∷ mark Colon ∷ word Label "a" ∷ []) 22 3
+    -- { a : PUSH1 a : }: behind everything before it
+    ∷ refusedRow (word Label "a" ∷ mark Colon ∷ PUSH1 ∷ word Label "a" ∷ mark Colon ∷ []) 4 4
+    -- { a : a }, the second an Ident: a label call is no name
+    ∷ acceptedRow (word Label "a" ∷ mark Colon ∷ word Ident "a" ∷ []) (5 ∷ 2 ∷ 0 ∷ 4 ∷ [])
+    ((5 ∷ 1 ∷ 4 ∷ 1 ∷ 1 ∷ 0 ∷ 0 ∷ 1 ∷ []) ∷ (3 ∷ 3 ∷ 4 ∷ 2 ∷ 0 ∷ 0 ∷ 0 ∷ 3 ∷ []) ∷ [])
+    []
+    -- { a : aa : A : }: byte for byte
+    ∷ acceptedRow (word Label "a" ∷ mark Colon ∷ word Label "aa" ∷ mark Colon ∷ word Label "A" ∷ mark Colon ∷ []) (8 ∷ 3 ∷ 0 ∷ 3 ∷ [])
+    ((5 ∷ 1 ∷ 3 ∷ 1 ∷ 0 ∷ 0 ∷ 0 ∷ 1 ∷ []) ∷ (5 ∷ 3 ∷ 5 ∷ 2 ∷ 0 ∷ 0 ∷ 0 ∷ 3 ∷ []) ∷ (5 ∷ 5 ∷ 7 ∷ 3 ∷ 0 ∷ 0 ∷ 0 ∷ 5 ∷ []) ∷ [])
+    []
+    -- { go : PUSH1 go }, { go : : }: another token behind a push is 4, one that begins no item is 6 as ever
+    ∷ refusedRow (word Label "go" ∷ mark Colon ∷ PUSH1 ∷ word Ident "go" ∷ []) 4 4
+    ∷ refusedRow (word Label "go" ∷ mark Colon ∷ mark Colon ∷ []) 6 3
     ∷ []

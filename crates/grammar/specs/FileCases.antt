@@ -1,5 +1,7 @@
--- Document 01, "Bodies and files on both sides": the rows of files, input and answer side by side, and further files. Eof follows each.
+-- Document 01, "Bodies and files on both sides": the rows of files, input and answer side by side, further files, and those of request [1]. Eof follows
+-- each.
 use Prim.Native.Nat.{ℕ}
+use Prim.Native.String.{String}
 use mathlib.Core.List.{List, [], _∷_, _++_}
 use Rattle.tokens.specs.Kind.{Eof, Include, Define, Pound, Macro, Fn, Test, Function, Event, Constant, Error, JumpTable, JumpTablePacked, CodeTable, Takes, Returns, View, Indexed, Calldata, Memory, Assign, OpenParen, CloseParen, OpenBrace, CloseBrace, Comma, Colon, FreeStoragePointer, Ident, Label, Literal, Str, PrimitiveType}
 use Rattle.grammar.specs.Reading.{NONE}
@@ -7,7 +9,7 @@ use Rattle.grammar.specs.FileReading.{Definition}
 use Rattle.grammar.specs.FileRecords.{definitionRecords, fileStatements, fileArgumentRecords}
 use Rattle.grammar.specs.Result.{Answer}
 use Rattle.grammar.specs.Call.{refusal, fileNumbers, recordsOf}
-use Rattle.grammar.specs.Cases.{Sketch, mark, word, num}
+use Rattle.grammar.specs.Cases.{Sketch, mark, word, num, PUSH1}
 
 -- what a file call answers: number, cursor, definitions, statements, arguments; and the records of the three tables
 pub record FileOutcome : Type 0 where
@@ -143,4 +145,22 @@ fileRows =
     ∷ refusalFile (head JumpTable (word Ident "T") (mark Assign ∷ mark OpenParen ∷ [])) 1 4
     ∷ refusalFile (head CodeTable (word Ident "T") (mark OpenBrace ∷ word Ident "xyz" ∷ [])) 11 4
     ∷ refusalFile (head JumpTable (word Ident "T") (mark OpenBrace ∷ [])) 11 4
+    ∷ []
+
+-- #define macro name ( ) = { ts }
+abbrev pub macroOf : String → List Sketch → List Sketch
+macroOf name ts = head Macro (word Ident name) ((mark OpenParen ∷ mark CloseParen ∷ mark Assign ∷ mark OpenBrace ∷ ts) ++ (mark CloseBrace ∷ []))
+
+-- request [1]: files in mode 1
+abbrev pub strictFiles : List FileRow
+strictFiles =
+    -- the label a in two macros
+    acceptedFile (macroOf "M" (word Label "a" ∷ mark Colon ∷ []) ++ macroOf "N" (word Label "a" ∷ mark Colon ∷ [])) (20 ∷ 2 ∷ 2 ∷ 0 ∷ [])
+    ((6 ∷ 2 ∷ 0 ∷ 10 ∷ 0 ∷ 0 ∷ 0 ∷ 0 ∷ 0 ∷ 1 ∷ 0 ∷ 0 ∷ []) ∷ (6 ∷ 12 ∷ 10 ∷ 20 ∷ 0 ∷ 0 ∷ 0 ∷ 0 ∷ 1 ∷ 1 ∷ 0 ∷ 0 ∷ []) ∷ [])
+    ((5 ∷ 7 ∷ 9 ∷ 1 ∷ 0 ∷ 0 ∷ 0 ∷ 7 ∷ []) ∷ (5 ∷ 17 ∷ 19 ∷ 2 ∷ 0 ∷ 0 ∷ 0 ∷ 17 ∷ []) ∷ [])
+    []
+    -- twice in the second of two macros of one name: 22 comes before 20
+    ∷ refusalFile (macroOf "M" [] ++ macroOf "M" (word Label "a" ∷ mark Colon ∷ word Label "a" ∷ mark Colon ∷ [])) 22 17
+    -- a label's push in a fn
+    ∷ refusalFile (head Fn (word Ident "F") (mark OpenParen ∷ mark CloseParen ∷ mark Assign ∷ mark OpenBrace ∷ word Label "a" ∷ mark Colon ∷ PUSH1 ∷ mark CloseBrace ∷ [])) 4 10
     ∷ []

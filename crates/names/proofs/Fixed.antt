@@ -7,5 +7,5 @@ use Rattle.tokens.specs.Token.{Token}
 use Rattle.names.specs.Names.{Checked}
 
 -- of `check_duplicate` the answer; what it remembers is room of the call's own, of which a caller learns only what its next question needs
-pub one-check : {all : List Token} {name places : List ℕ} {n : ℕ} {r r′ : Bool} {m m′ p p′ h h′ : List ℕ} → Checked all name places n r m p h → Checked all name places n r′ m′ p′ h′ → r ≡ r′
+pub one-check : {all : List Token} {name places : List ℕ} {n : ℕ} {r r′ : Bool} {h h′ x x′ p p′ : List ℕ} → Checked all name places n r h x p → Checked all name places n r′ h′ x′ p′ → r ≡ r′
 one-check m n = m .is ∙ sym (n .is)

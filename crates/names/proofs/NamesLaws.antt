@@ -1,17 +1,16 @@
--- Laws of remembered names: the hash by four bytes and by those that are left, bits, the marks, the walk a name at a time, a bit that is not set, one name
--- more. Assumes nothing.
-use Prim.Native.Nat.{ℕ, zero, suc, _+_, _-_, _*_, _/_, _%_, _≤_, _<_, zero-le, min, max}
+-- Laws of remembered names: the hash by four bytes and by those that are left, the walk a name at a time, buckets, the walk of a bucket, one name more. Assumes
+-- nothing.
+use Prim.Native.Nat.{ℕ, zero, suc, _+_, _-_, _*_, _≤_, _<_}
 use mathlib.Core.Path.{_≡_, refl, sym, ap, _∙_}
-use mathlib.Core.Bool.{Bool, true, false}
+use mathlib.Core.Bool.{Bool, true, false, cond}
 use mathlib.Core.List.{List, [], _∷_}
 use mathlib.Core.Logic.{⊎-elim}
 use native.Mathlib.Omega.{arith}
-use native.Mathlib.Nat.{eq-or-lt-of-le, le-trans}
+use native.Mathlib.Nat.{eq-or-lt-of-le}
+use native.Mathlib.Numerals.{add-one}
 use borrow.Author.Tests.{eqb-true, eqb-false}
 use lib.Dec.{eqb}
-use lib.Arith.{bin-ind}
-use lib.Pow.{pow-pos}
-use lib.Bits.{bitAnd, bitOr, and-step, or-step, or-shr, and-le-r, and-self}
+use lib.Bits.{and-le-r}
 use lib.ListN.{length, getD, drop, set, length-set, length-drop, drop-of-length-le}
 use lib.Seq.{drop-cons, getD-set-same, getD-set-other}
 use Rattle.tokens.specs.Token.{Token, tokenAt, view}
@@ -20,7 +19,7 @@ use Rattle.tokens.specs.Byte.{same}
 use Rattle.tokens.specs.Name.{oneOf}
 use Rattle.tokens.proofs.NameLaws.{same-equal}
 use Rattle.tokens.proofs.TokenLaws.{view-text}
-use Rattle.names.specs.Names.{mixed, fourAt, restOf, hashFrom, hashOf, markByte, markBit, setBit, mark, nameAt, namesAt, Remembered, Noted, Noting}
+use Rattle.names.specs.Names.{mixed, fourAt, restOf, hashFrom, hashOf, bucketOf, nameAt, namesAt, latest, Noted, Noting}
 
 -- ---- the hash
 
@@ -53,14 +52,14 @@ pub rest-one : (i : ℕ) (name : List ℕ) → length name ≡ i + 1 → getD na
 unfolding restOf
 rest-one i name e = rw (next-byte name i (i + 1) (omega arith) (omega arith), drop-of-length-le name {i = i + 1} (omega arith)) refl
 
-pub rest-two : (i : ℕ) (name : List ℕ) → length name ≡ i + 2 → getD name i 0 * 2048 + getD name (i + 1) 0 ≡ restOf (drop i name)
+pub rest-two : (i : ℕ) (name : List ℕ) → length name ≡ i + 2 → getD name i 0 * 256 + getD name (i + 1) 0 ≡ restOf (drop i name)
 unfolding restOf
 rest-two i name e =
     rw
     (next-byte name i (i + 1) (omega arith) (omega arith), next-byte name (i + 1) (i + 2) (omega arith) (omega arith), drop-of-length-le name {i = i + 2} (omega arith))
     refl
 
-pub rest-three : (i : ℕ) (name : List ℕ) → i + 3 ≤ length name → (getD name i 0 * 2048 + getD name (i + 1) 0) * 2048 + getD name (i + 2) 0 ≡ restOf (drop i name)
+pub rest-three : (i : ℕ) (name : List ℕ) → i + 3 ≤ length name → (getD name i 0 * 256 + getD name (i + 1) 0) * 256 + getD name (i + 2) 0 ≡ restOf (drop i name)
 unfolding restOf
 rest-three i name le = rw (three-bytes i name le) refl
 
@@ -79,153 +78,23 @@ few h (a ∷ b ∷ c ∷ d ∷ bs) lt = absurd (none (length bs) lt)
 pub hash-end : (h i : ℕ) (name : List ℕ) → length name < i + 4 → mixed (h + restOf (drop i name)) ≡ hashFrom h (drop i name)
 hash-end h i name lt = few h (drop i name) (omega (arith, length-drop i name))
 
--- ---- bits
-
--- half of an `or`, and its last digit
-or-half : (m r : ℕ) → bitOr m r / 2 ≡ bitOr (m / 2) (r / 2)
-or-half m r = or-shr m r 1
-
-or-odd : (m r : ℕ) → bitOr m r % 2 ≡ max (m % 2) (r % 2)
-or-odd m r = ap (λ (x : ℕ). x % 2) (or-step m r) ∙ digit (bitOr (m / 2) (r / 2)) (m % 2) (r % 2) (omega arith) (omega arith)
-  where
-    digit : (a x y : ℕ) → x < 2 → y < 2 → (a * 2 + max x y) % 2 ≡ max x y
-    digit a x y hx hy = omega arith
-
--- the digits of an `and` with an `or`
-and-or-step : (m r q : ℕ) → bitAnd (bitOr m r) q ≡ bitAnd (bitOr (m / 2) (r / 2)) (q / 2) * 2 + min (max (m % 2) (r % 2)) (q % 2)
-and-or-step m r q = and-step (bitOr m r) q ∙ rw (or-half m r, or-odd m r) refl
-
--- setting bits keeps those that are set
-or-keeps : (m r q : ℕ) → bitAnd m q ≤ bitAnd (bitOr m r) q
-or-keeps =
-    bin-ind (λ (m : ℕ). (r q : ℕ) → bitAnd m q ≤ bitAnd (bitOr m r) q) (λ r q. zero-le)
-    (λ m ih r q. digit (m % 2) (r % 2) (q % 2) (and-step m q) (and-or-step m r q) (ih (r / 2) (q / 2)))
-  where
-    digit : {a b c d : ℕ} (x y z : ℕ) → a ≡ c * 2 + min x z → b ≡ d * 2 + min (max x y) z → c ≤ d → a ≤ b
-    digit x y z e f le = omega arith
-
--- the bits that are set by it are set
-or-sets : (m q : ℕ) → bitAnd (bitOr m q) q ≡ q
-or-sets =
-    bin-ind (λ (m : ℕ). (q : ℕ) → bitAnd (bitOr m q) q ≡ q) and-self
-    (λ m ih q. digit q (m % 2) (and-or-step m q q) (ih (q / 2)))
-  where
-    digit : {a b : ℕ} (q x : ℕ) → a ≡ b * 2 + min (max x (q % 2)) (q % 2) → b ≡ q / 2 → a ≡ q
-    digit q x e f = omega arith
-
--- ---- the marks
-
-pub byte-inside : (high : Bool) (size h : ℕ) → 2 ≤ size → markByte high size h < size
-unfolding markByte
-byte-inside false size h some = let below = and-le-r (h / 8) (size / 2 - 1) in omega arith
-byte-inside true size h some = let below = and-le-r (h / 524288) (size / 2 - 1) in omega arith
-
-bit-some : (high : Bool) (h : ℕ) → 0 < markBit high h
-unfolding markBit
-bit-some false h = pow-pos (h % 8)
-bit-some true h = pow-pos (h / 65536 % 8)
-
-module _ (marks : List ℕ) (k r : ℕ) (inside : k < length marks) where
-  -- a bit that was set stays so where one is set
-  stays : (b q : ℕ) → 0 < bitAnd (getD marks b 0) q → 0 < bitAnd (getD (setBit marks k r) b 0) q
-  stays b q some = go (eqb b k) refl
-    where
-      go : (t : Bool) → eqb b k ≡ t → 0 < bitAnd (getD (setBit marks k r) b 0) q
-      go true x =
-          rw (eqb-true b k x, getD-set-same marks k (bitOr (getD marks k 0) r) 0 inside)
-          (le-trans (rw (eqb-true b k x) at some) (or-keeps (getD marks k 0) r q))
-      go false x = rw (getD-set-other marks k b (bitOr (getD marks k 0) r) 0 (eqb-false b k x)) some
-
-  -- the bit itself is set then
-  sets-own : 0 < r → 0 < bitAnd (getD (setBit marks k r) k 0) r
-  sets-own some = rw (getD-set-same marks k (bitOr (getD marks k 0) r) 0 inside, or-sets (getD marks k 0) r) some
-
-module _ (marks : List ℕ) (h : ℕ) where
-  abbrev own : Bool → ℕ
-  own high = markByte high (length marks) h
-
-  abbrev lower : List ℕ
-  lower = setBit marks (own false) (markBit false h)
-
-  length-lower : length lower ≡ length marks
-  length-lower = length-set marks (own false) (bitOr (getD marks (own false) 0) (markBit false h))
-
-  length-mark : length (mark marks h) ≡ length marks
-  unfolding mark
-  length-mark = length-set lower (own true) (bitOr (getD lower (own true) 0) (markBit true h)) ∙ length-lower
-
-  module _ (some : 2 ≤ length marks) where
-    inside : (high : Bool) → own high < length marks
-    inside high = byte-inside high (length marks) h some
-
-    inside′ : own true < length lower
-    inside′ = rw length-lower (inside true)
-
-    mark-stays : (b q : ℕ) → 0 < bitAnd (getD marks b 0) q → 0 < bitAnd (getD (mark marks h) b 0) q
-    unfolding mark
-    mark-stays b q e = stays lower (own true) (markBit true h) inside′ b q (stays marks (own false) (markBit false h) (inside false) b q e)
-
-    mark-own : (high : Bool) → 0 < bitAnd (getD (mark marks h) (own high) 0) (markBit high h)
-    unfolding mark
-    mark-own false =
-        stays lower (own true) (markBit true h) inside′ (own false) (markBit false h)
-        (sets-own marks (own false) (markBit false h) (inside false) (bit-some false h))
-    mark-own true = sets-own lower (own true) (markBit true h) inside′ (bit-some true h)
-
--- what the code stores, the second byte found among the marks with the first bit set
-pub mark-is : (marks : List ℕ) (h : ℕ) {b c q r : ℕ} → b ≡ markByte false (length marks) h → q ≡ markBit false h
-    → c ≡ markByte true (length (setBit marks b q)) h → r ≡ markBit true h → setBit (setBit marks b q) c r ≡ mark marks h
-unfolding mark
-mark-is marks h {b} {c} {q} {r} low bit high bit′ =
-    let there : c ≡ markByte true (length marks) h = high ∙ ap (λ (n : ℕ). markByte true n h) (length-set marks b (bitOr (getD marks b 0) q)) in
-    rw (there, bit′, low, bit) refl
-
 -- ---- the walk
-
--- names of different hashes are different
-other-hash : (a b : List ℕ) → (hashOf a ≡ hashOf b → ⊥) → same a b ≡ false
-other-hash a b h = go (same a b) refl
-  where
-    go : (t : Bool) → same a b ≡ t → t ≡ false
-    go true e = absurd (h (ap hashOf (same-equal a b .0 e)))
-    go false e = refl
 
 module _ (all : List Token) (places name : List ℕ) where
   -- the name at j is the same
-  pub walk-found : (i j : ℕ) → i ≡ suc j → same (nameAt all places j) name ≡ true → oneOf (namesAt all places i) name ≡ true
+  walk-found : (i j : ℕ) → i ≡ suc j → same (nameAt all places j) name ≡ true → oneOf (namesAt all places i) name ≡ true
   unfolding oneOf namesAt
   walk-found i j e h = rw (e, h)
 
   -- the name at j is another
-  pub walk-other : (i j : ℕ) → i ≡ suc j → same (nameAt all places j) name ≡ false → oneOf (namesAt all places i) name ≡ oneOf (namesAt all places j) name
+  walk-other : (i j : ℕ) → i ≡ suc j → same (nameAt all places j) name ≡ false → oneOf (namesAt all places i) name ≡ oneOf (namesAt all places j) name
   unfolding oneOf namesAt
   walk-other i j e h = rw (e, h)
 
   -- no name is left
-  pub walk-end : oneOf (namesAt all places 0) name ≡ false
+  walk-end : oneOf (namesAt all places 0) name ≡ false
   unfolding oneOf namesAt
   walk-end = refl
-
-  -- a stored hash that is another tells that the name is another
-  pub hash-tells : (hashes : List ℕ) (n h : ℕ) → Remembered all places hashes n → h ≡ hashOf name → (j : ℕ) → j < n → (getD hashes j 0 ≡ h → ⊥) → same (nameAt all places j) name ≡ false
-  hash-tells hashes n h names is j lt other = other-hash (nameAt all places j) name (λ e. other (names .hashed j lt ∙ e ∙ sym is))
-
-  module _ (marks hashes : List ℕ) (n h : ℕ) (noted : Noted all marks places hashes n) (is : h ≡ hashOf name) where
-    -- a bit that is not set tells that every earlier name is another
-    pub unmarked : (high : Bool) {b q : ℕ} → b ≡ markByte high (length marks) h → q ≡ markBit high h → bitAnd (getD marks b 0) q ≡ 0
-        → oneOf (namesAt all places n) name ≡ false
-    unmarked high {b} {q} own bit none = go n (omega arith)
-      where
-        clash : (j : ℕ) → j < n → hashOf (nameAt all places j) ≡ hashOf name → ⊥
-        clash j lt e =
-            let one = noted .marked high j lt in
-            let same-hash : hashOf (nameAt all places j) ≡ h = e ∙ sym is in
-            let two : 0 < bitAnd (getD marks b 0) q = rw (own, bit, ← same-hash) one in
-            omega arith
-
-        go : (k : ℕ) → k ≤ n → oneOf (namesAt all places k) name ≡ false
-        go zero le = walk-end
-        go (suc k) le = walk-other (suc k) k refl (other-hash (nameAt all places k) name (clash k (omega arith))) ∙ go k (omega arith)
 
 -- what the code compares is the name at a place
 pub same-here : (text words kept : List ℕ) (p : ℕ) (name part : List ℕ) {r t : Bool} → part ≡ textAt text words kept p → r ≡ same part name → r ≡ t
@@ -238,15 +107,127 @@ pub asked-here : (text words kept places : List ℕ) (n p : ℕ) (name : List �
     → t ≡ oneOf (namesAt (view text words kept) places n) (tokenAt (view text words kept) p .text)
 asked-here text words kept places n p name e s is = sym is ∙ s ∙ ap (oneOf (namesAt (view text words kept) places n)) (e ∙ sym (view-text text words kept p))
 
+-- ---- buckets
+
+-- the bucket lies inside
+pub bucket-inside : (size : ℕ) (name : List ℕ) → 1 ≤ size → bucketOf size name < size
+unfolding bucketOf
+bucket-inside size name some = let below = and-le-r (hashOf name) (size - 1) in omega arith
+
+-- names of different buckets are different
+other-bucket : (size : ℕ) (a b : List ℕ) → (bucketOf size a ≡ bucketOf size b → ⊥) → same a b ≡ false
+other-bucket size a b h = go (same a b) refl
+  where
+    go : (t : Bool) → same a b ≡ t → t ≡ false
+    go true e = absurd (h (ap (bucketOf size) (same-equal a b .0 e)))
+    go false e = refl
+
+module _ (size : ℕ) (all : List Token) (places : List ℕ) where
+  -- the last name of a bucket is one of the names
+  latest-le : (b n : ℕ) → latest size all places b n ≤ n
+  unfolding latest
+  latest-le b zero = omega arith
+  latest-le b (suc n) = go (eqb (bucketOf size (nameAt all places n)) b) (latest-le b n)
+    where
+      go : (t : Bool) → latest size all places b n ≤ n → cond t (suc n) (latest size all places b n) ≤ suc n
+      go true le = omega arith
+      go false le = omega arith
+
+  -- its bucket is that one
+  latest-own : (b n i : ℕ) → latest size all places b n ≡ suc i → bucketOf size (nameAt all places i) ≡ b
+  unfolding latest
+  latest-own b zero i e = absurd (none i e)
+    where
+      none : (i : ℕ) → 0 ≡ suc i → ⊥
+      none i e = omega arith
+  latest-own b (suc n) i e = go (eqb (bucketOf size (nameAt all places n)) b) refl (latest-own b n i) e
+    where
+      go : (t : Bool) → eqb (bucketOf size (nameAt all places n)) b ≡ t → (latest size all places b n ≡ suc i → bucketOf size (nameAt all places i) ≡ b)
+          → cond t (suc n) (latest size all places b n) ≡ suc i → bucketOf size (nameAt all places i) ≡ b
+      go true x ih e = let is : i ≡ n = omega (arith, e) in rw is (eqb-true _ _ x)
+      go false x ih e = ih e
+
+  -- a name is one of the first n if it is one of those up to the last of its bucket
+  latest-asked : (name : List ℕ) (n : ℕ) → oneOf (namesAt all places (latest size all places (bucketOf size name) n)) name ≡ oneOf (namesAt all places n) name
+  unfolding latest
+  latest-asked name zero = refl
+  latest-asked name (suc n) = go (eqb (bucketOf size (nameAt all places n)) (bucketOf size name)) refl (latest-asked name n)
+    where
+      go : (t : Bool) → eqb (bucketOf size (nameAt all places n)) (bucketOf size name) ≡ t
+          → oneOf (namesAt all places (latest size all places (bucketOf size name) n)) name ≡ oneOf (namesAt all places n) name
+          → oneOf (namesAt all places (cond t (suc n) (latest size all places (bucketOf size name) n))) name ≡ oneOf (namesAt all places (suc n)) name
+      go true x ih = refl
+      go false x ih = ih ∙ sym (walk-other all places name (suc n) n refl (other-bucket size (nameAt all places n) name (eqb-false _ _ x)))
+
+-- ---- the walk of a bucket
+
+-- at each turn: a name is one of n if it is one of the first j, of which the last is of its bucket
+pub record Seeking (size : ℕ) (all : List Token) (places name : List ℕ) (n j : ℕ) : Type 0 where
+  pub inside : j ≤ n
+  pub asked : oneOf (namesAt all places j) name ≡ oneOf (namesAt all places n) name
+  pub own : (i : ℕ) → j ≡ suc i → bucketOf size (nameAt all places i) ≡ bucketOf size name
+
+-- from the last of its bucket on
+seek-from : (size : ℕ) (all : List Token) (places name : List ℕ) (n m j : ℕ) → m ≤ n → oneOf (namesAt all places m) name ≡ oneOf (namesAt all places n) name
+    → j ≡ latest size all places (bucketOf size name) m → Seeking size all places name n j
+seek-from size all places name n m j le e is =
+    let most = latest-le size all places (bucketOf size name) m in
+    record {
+      inside = omega arith;
+      asked = rw is (latest-asked size all places name m ∙ e);
+      own = λ i s. latest-own size all places (bucketOf size name) m i (sym is ∙ s);
+    }
+
+-- at the start
+pub seek-begins : (size : ℕ) (all : List Token) (places name : List ℕ) (n j : ℕ) → j ≡ latest size all places (bucketOf size name) n → Seeking size all places name n j
+seek-begins size all places name n j = seek-from size all places name n n j (omega arith) refl
+
+module _ {size : ℕ} {all : List Token} {places name : List ℕ} {n j : ℕ} (seek : Seeking size all places name n j) where
+  -- no name is left
+  pub seek-ends : j ≤ 0 → false ≡ oneOf (namesAt all places n) name
+  seek-ends le = let is : j ≡ 0 = omega arith in sym (walk-end all places name) ∙ rw is at (seek .asked)
+
+  -- the name at i is the same
+  pub seek-found : (i : ℕ) → j ≡ suc i → same (nameAt all places i) name ≡ true → true ≡ oneOf (namesAt all places n) name
+  seek-found i is h = sym (walk-found all places name j i is h) ∙ seek .asked
+
+module _ {all : List Token} {heads next places name : List ℕ} {n j : ℕ} (noted : Noted all heads next places n) (seek : Seeking (length heads) all places name n j)
+    (i : ℕ) (is : j ≡ suc i) where
+  -- the one before it in its bucket
+  before : getD next i 0 ≡ latest (length heads) all places (bucketOf (length heads) name) i
+  before = noted .link i (omega (arith, seek .inside)) ∙ ap (λ (b : ℕ). latest (length heads) all places b i) (seek .own i is)
+
+  -- is an earlier one
+  pub seek-less : getD next i 0 < j
+  seek-less = let most = latest-le (length heads) all places (bucketOf (length heads) name) i in omega (arith, before)
+
+  -- the name at i is another
+  pub seek-on : same (nameAt all places i) name ≡ false → Seeking (length heads) all places name n (getD next i 0)
+  seek-on other =
+      seek-from (length heads) all places name n i (getD next i 0) (omega (arith, seek .inside)) (sym (walk-other all places name j i is other) ∙ seek .asked) before
+
+-- what the code reads of a bucket is its last name
+pub bucket-last : {all : List Token} {heads next places : List ℕ} {n : ℕ} (name : List ℕ) {b : ℕ} → Noted all heads next places n → b ≡ bucketOf (length heads) name
+    → getD heads b 0 ≡ latest (length heads) all places (bucketOf (length heads) name) n
+bucket-last {heads = heads} name noted is = rw is (noted .head (bucketOf (length heads) name) (bucket-inside (length heads) name (noted .some)))
+
 -- ---- one name more
 
-module _ (all : List Token) (marks places hashes : List ℕ) (n p h : ℕ) where
-  abbrev pub places′ : List ℕ
+module _ (all : List Token) (heads next places : List ℕ) (n p : ℕ) where
+  -- the bucket of the new name
+  abbrev here : ℕ
+  here = bucketOf (length heads) (tokenAt all p .text)
+
+  abbrev heads′ : List ℕ
+  heads′ = set heads here (suc n)
+
+  abbrev next′ : List ℕ
+  next′ = set next n (getD heads here 0)
+
+  abbrev places′ : List ℕ
   places′ = set places n p
 
-  abbrev pub hashes′ : List ℕ
-  hashes′ = set hashes n h
-
+  -- what was remembered before stays: a name, the names, the last of a bucket
   earlier : (j : ℕ) → j < n → nameAt all places′ j ≡ nameAt all places j
   earlier j lt = ap (λ (q : ℕ). tokenAt all q .text) (getD-set-other places n j p 0 (apart j n lt))
     where
@@ -258,15 +239,42 @@ module _ (all : List Token) (marks places hashes : List ℕ) (n p h : ℕ) where
   earlier-names zero le = refl
   earlier-names (suc k) le = rw (earlier k (omega arith), earlier-names k (omega arith))
 
-  module _ (noted : Noted all marks places hashes n) (room : n < length places) (room′ : n < length hashes) (is : h ≡ hashOf (tokenAt all p .text)) where
-    newest : nameAt all places′ n ≡ tokenAt all p .text
-    newest = ap (λ (q : ℕ). tokenAt all q .text) (getD-set-same places n p 0 room)
+  earlier-latest : (size b k : ℕ) → k ≤ n → latest size all places′ b k ≡ latest size all places b k
+  unfolding latest
+  earlier-latest size b zero le = refl
+  earlier-latest size b (suc k) le = rw (earlier k (omega arith), earlier-latest size b k (omega arith))
 
-    hashed′ : (j : ℕ) → j < suc n → getD hashes′ j 0 ≡ hashOf (nameAt all places′ j)
-    hashed′ j lt =
+  module _ (noted : Noted all heads next places n) (room : n < length next) (room′ : n < length places) where
+    -- what is remembered now is the name at p
+    newest : nameAt all places′ n ≡ tokenAt all p .text
+    newest = ap (λ (q : ℕ). tokenAt all q .text) (getD-set-same places n p 0 room′)
+
+    -- its bucket lies inside
+    inside : here < length heads
+    inside = bucket-inside (length heads) (tokenAt all p .text) (noted .some)
+
+    -- the new name is the last of its bucket, and other buckets are as they were
+    head′ : (b : ℕ) → b < length heads → getD heads′ b 0 ≡ latest (length heads) all places′ b (suc n)
+    unfolding latest
+    head′ b lt = go (eqb here b) refl
+      where
+        go : (t : Bool) → eqb here b ≡ t → getD heads′ b 0 ≡ latest (length heads) all places′ b (suc n)
+        go true x = rw (newest, x, ← eqb-true here b x) (getD-set-same heads here (suc n) 0 inside)
+        go false x =
+            rw (newest, x)
+            (getD-set-other heads here b (suc n) 0 (λ e. eqb-false here b x (sym e)) ∙ noted .head b lt ∙ sym (earlier-latest (length heads) b n (omega arith)))
+
+    -- it leads to the one that was the last
+    link′ : (j : ℕ) → j < suc n → getD next′ j 0 ≡ latest (length heads) all places′ (bucketOf (length heads) (nameAt all places′ j)) j
+    link′ j lt =
         ⊎-elim
-        (λ (e : j ≡ n). rw e (getD-set-same hashes n h 0 room′ ∙ is ∙ ap hashOf (sym newest)))
-        (λ (l : j < n). getD-set-other hashes n j h 0 (λ e. apart j n l e) ∙ noted .names .hashed j l ∙ ap hashOf (sym (earlier j l)))
+        (λ (e : j ≡ n).
+        rw (e, newest) (getD-set-same next n (getD heads here 0) 0 room ∙ noted .head here inside ∙ sym (earlier-latest (length heads) here n (omega arith))))
+        (λ (l : j < n).
+        rw (earlier j l)
+        (getD-set-other next n j (getD heads here 0) 0 (apart j n l)
+        ∙ noted .link j l
+        ∙ sym (earlier-latest (length heads) (bucketOf (length heads) (nameAt all places j)) j (omega arith))))
         (eq-or-lt-of-le (down j n lt))
       where
         apart : (j n : ℕ) → j < n → j ≡ n → ⊥
@@ -275,35 +283,26 @@ module _ (all : List Token) (marks places hashes : List ℕ) (n p h : ℕ) where
         down : (j n : ℕ) → j < suc n → j ≤ n
         down j n lt = omega arith
 
-    -- both bits of the new name are set, and every bit before stays
-    marked′ : (high : Bool) (j : ℕ) → j < suc n
-        → 0 < bitAnd (getD (mark marks h) (markByte high (length marks) (hashOf (nameAt all places′ j))) 0) (markBit high (hashOf (nameAt all places′ j)))
-    marked′ high j lt =
-        ⊎-elim
-        (λ (e : j ≡ n). rw (e, newest, ← is) (mark-own marks h (noted .halves) high))
-        (λ (l : j < n). rw (earlier j l) (mark-stays marks h (noted .halves) _ _ (noted .marked high j l)))
-        (eq-or-lt-of-le (down j n lt))
-      where
-        down : (j n : ℕ) → j < suc n → j ≤ n
-        down j n lt = omega arith
-
-    pub noted-more : Noting false all (tokenAt all p .text) places n (mark marks h) places′ hashes′ (suc n)
+    -- one name more is remembered
+    noted-more : Noting false all (tokenAt all p .text) places n heads′ next′ places′ (suc n)
     unfolding namesAt
     noted-more = (
       record {
-        names = record { placed = rw length-set room; stored = rw length-set room′; hashed = hashed′ };
-        halves = rw (length-mark marks h) (noted .halves);
-        marked = λ high j lt. rw (length-mark marks h) (marked′ high j lt);
+        placed = rw length-set room′;
+        linked = rw length-set room;
+        some = rw length-set (noted .some);
+        head = rw (length-set heads here (suc n)) head′;
+        link = rw (length-set heads here (suc n)) link′;
       },
       rw (newest, earlier-names n (omega arith)),
     )
 
 -- the same of what the code stores
-pub remembered : (text words kept marks places hashes : List ℕ) (n p h : ℕ) (name m q s : List ℕ)
-    → Noted (view text words kept) marks places hashes n → n < length places → n < length hashes
-    → name ≡ textAt text words kept p → h ≡ hashOf name
-    → (m ≡ mark marks h) × (q ≡ set places n p) × (s ≡ set hashes n h)
-    → Noting false (view text words kept) (tokenAt (view text words kept) p .text) places n m q s (suc n)
-remembered text words kept marks places hashes n p h name m q s noted room room′ e is stored =
-    rw (stored .0, stored .1, stored .2)
-    (noted-more (view text words kept) marks places hashes n p h noted room room′ (is ∙ ap hashOf (e ∙ sym (view-text text words kept p))))
+pub remembered : (text words kept heads next places : List ℕ) (n p b : ℕ) (name x y z : List ℕ)
+    → Noted (view text words kept) heads next places n → n < length next → n < length places
+    → name ≡ textAt text words kept p → b ≡ bucketOf (length heads) name
+    → (x ≡ set heads b (n + 1)) × (y ≡ set next n (getD heads b 0)) × (z ≡ set places n p)
+    → Noting false (view text words kept) (tokenAt (view text words kept) p .text) places n x y z (suc n)
+remembered text words kept heads next places n p b name x y z noted room room′ e is stored =
+    let own : b ≡ bucketOf (length heads) (tokenAt (view text words kept) p .text) = is ∙ ap (bucketOf (length heads)) (e ∙ sym (view-text text words kept p)) in
+    rw (stored .0, stored .1, stored .2, own, add-one n) (noted-more (view text words kept) heads next places n p noted room room′)

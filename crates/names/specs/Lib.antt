@@ -1,2 +1,3 @@
--- What the test for repeated names promises, and what it remembers.
+-- What the test for repeated names promises, what it remembers, and what the walk over labels needs.
 pub mod Names
+pub mod Labels

@@ -1,4 +1,6 @@
-// Remembered names, below all layers: is a name among them?
+// Remembered names, below all layers: is a name among them, and which label has a name that stands again?
+mod labels;
 mod names;
 
+pub use labels::first_again;
 pub use names::check_duplicate;

@@ -9,18 +9,18 @@ use Rattle.files.proofs.Fixed as file
 use Rattle.simmerotter.specs.Answered.{FileAnswered, BodyAnswered}
 
 -- of `simmerotter_read_file`
-pub one-file : {text words kept de st ar n n′ k k′ d d′ s s′ a a′ : List ℕ}
-    → FileAnswered text words kept de st ar n k d s a
-    → FileAnswered text words kept de st ar n′ k′ d′ s′ a′
+pub one-file : {mode : ℕ} {text words kept de st ar n n′ k k′ d d′ s s′ a a′ : List ℕ}
+    → FileAnswered mode text words kept de st ar n k d s a
+    → FileAnswered mode text words kept de st ar n′ k′ d′ s′ a′
     → (n ≡ n′) × (k ≡ k′) × (d ≡ d′) × (s ≡ s′) × (a ≡ a′)
 one-file x y =
     let (r, k, d, s, a) = file.one-call (x .call) (y .call) in
     (x .numbers ∙ ap files.values r ∙ sym (y .numbers), k, d, s, a)
 
 -- of `simmerotter_read_body`
-pub one-body : {text words kept st ar n n′ k k′ s s′ a a′ : List ℕ} {start : ℕ}
-    → BodyAnswered text words start kept st ar n k s a
-    → BodyAnswered text words start kept st ar n′ k′ s′ a′
+pub one-body : {mode : ℕ} {text words kept st ar n n′ k k′ s s′ a a′ : List ℕ} {start : ℕ}
+    → BodyAnswered mode text words start kept st ar n k s a
+    → BodyAnswered mode text words start kept st ar n′ k′ s′ a′
     → (n ≡ n′) × (k ≡ k′) × (s ≡ s′) × (a ≡ a′)
 one-body x y =
     let (r, k, s, a) = body.one-call (x .call) (y .call) in

@@ -8,13 +8,13 @@ use Rattle.files.specs.declared.entry.File.{File}
 use Rattle.files.specs.Call as file
 
 -- a file call's: an answer that `read_file` promises, with all that is lent, and its five numbers
-pub record FileAnswered (text words kept definitions statements arguments answer′ kept′ definitions′ statements′ arguments′ : List ℕ) : Type 0 where
+pub record FileAnswered (mode : ℕ) (text words kept definitions statements arguments answer′ kept′ definitions′ statements′ arguments′ : List ℕ) : Type 0 where
   pub given : File
-  pub call : file.FileCall text words kept definitions statements arguments given kept′ definitions′ statements′ arguments′
+  pub call : file.FileCall mode text words kept definitions statements arguments given kept′ definitions′ statements′ arguments′
   pub numbers : answer′ ≡ file.values given
 
 -- a body call's: an answer that `read_body` promises, with all that is lent, and its five numbers
-pub record BodyAnswered (text words : List ℕ) (start : ℕ) (kept statements arguments answer′ kept′ statements′ arguments′ : List ℕ) : Type 0 where
+pub record BodyAnswered (mode : ℕ) (text words : List ℕ) (start : ℕ) (kept statements arguments answer′ kept′ statements′ arguments′ : List ℕ) : Type 0 where
   pub given : Body
-  pub call : body.BodyCall text words start kept statements arguments given kept′ statements′ arguments′
+  pub call : body.BodyCall mode text words start kept statements arguments given kept′ statements′ arguments′
   pub numbers : answer′ ≡ body.values given

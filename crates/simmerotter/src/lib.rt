@@ -6,9 +6,10 @@ use values::body_values;
 use values::file_values;
 ghost use Rattle.simmerotter.specs.Answered.{FileAnswered, BodyAnswered};
 
-// Reads a whole file: `files::read_file`, its answer as number, cursor, definitions, statements, arguments.
+// Reads a whole file in a mode, 0 or 1: `files::read_file`, its answer as number, cursor, definitions, statements, arguments.
 #[no_mangle]
 pub extern "C" fn simmerotter_read_file(
+    mode: u32,
     text: &[u8],
     tokens: &[u32],
     kept: &mut [u32],
@@ -17,16 +18,17 @@ pub extern "C" fn simmerotter_read_file(
     arguments: &mut [u32],
     answer: &mut [u64; 5],
 )
-    ensures { λ _. ⌜ FileAnswered (now (text .entry)) (now (tokens .entry)) (now (kept .entry)) (now (definitions .entry)) (now (statements .entry))
+    ensures { λ _. ⌜ FileAnswered mode (now (text .entry)) (now (tokens .entry)) (now (kept .entry)) (now (definitions .entry)) (now (statements .entry))
         (now (arguments .entry)) (now (answer .exit)) (now (kept .exit)) (now (definitions .exit)) (now (statements .exit)) (now (arguments .exit)) ⌝ }
 {
-    let read = files::read_file(text, tokens, kept, definitions, statements, arguments);
+    let read = files::read_file(mode, text, tokens, kept, definitions, statements, arguments);
     *answer = file_values(read);
 }
 
-// Reads one body from place `start` of the kept tokens: `statements::read_body`, its answer as number, cursor, statements, arguments, plain length.
+// Reads one body in a mode from place `start` of the kept tokens: `statements::read_body`, its answer as number, cursor, statements, arguments, plain length.
 #[no_mangle]
 pub extern "C" fn simmerotter_read_body(
+    mode: u32,
     text: &[u8],
     tokens: &[u32],
     start: usize,
@@ -35,9 +37,9 @@ pub extern "C" fn simmerotter_read_body(
     arguments: &mut [u32],
     answer: &mut [u64; 5],
 )
-    ensures { λ _. ⌜ BodyAnswered (now (text .entry)) (now (tokens .entry)) start (now (kept .entry)) (now (statements .entry)) (now (arguments .entry))
+    ensures { λ _. ⌜ BodyAnswered mode (now (text .entry)) (now (tokens .entry)) start (now (kept .entry)) (now (statements .entry)) (now (arguments .entry))
         (now (answer .exit)) (now (kept .exit)) (now (statements .exit)) (now (arguments .exit)) ⌝ }
 {
-    let read = statements::read_body(text, tokens, start, kept, statements, arguments);
+    let read = statements::read_body(mode, text, tokens, start, kept, statements, arguments);
     *answer = body_values(read);
 }

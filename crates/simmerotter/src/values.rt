@@ -26,6 +26,7 @@ pub fn file_values(answer: File) -> [u64; 5]
     ensures { λ r. ⌜ r ≡ file.values answer ⌝ }
 {
     match answer {
+        File::UnknownMode => refusal(number::UNKNOWN_MODE, 0),
         File::NotWellFormed(at) => refusal(number::NOT_WELL_FORMED, at),
         File::KeptTooShort(count) => refusal(number::KEPT_TOO_SHORT, count),
         File::Refused(number, cursor) => refusal(number, cursor),
@@ -46,6 +47,7 @@ pub fn body_values(answer: Body) -> [u64; 5]
     ensures { λ r. ⌜ r ≡ body.values answer ⌝ }
 {
     match answer {
+        Body::UnknownMode => refusal(number::UNKNOWN_MODE, 0),
         Body::NotWellFormed(at) => refusal(number::NOT_WELL_FORMED, at),
         Body::KeptTooShort(count) => refusal(number::KEPT_TOO_SHORT, count),
         Body::StartOutside(at) => refusal(number::START_OUTSIDE, at),

@@ -18,6 +18,7 @@ use Rattle.tokens.proofs.TokenLaws.{view-kind, view-length}
 use Rattle.tokens.proofs.LentLaws.{put-late}
 use Rattle.grammar.specs.Reading.{Simple, Group, Reading}
 use Rattle.grammar.specs.Rules.{base}
+use Rattle.grammar.specs.Again.{pushing}
 use Rattle.grammar.specs.Grammar.{Item, LabelGroup, forget, remember}
 use Rattle.grammar.specs.Result.{Why, plain, number, beyond, Res, got, bad, Step, refuse, on, stepped, look, choose, oneMore, expect, counted, consed, joined, seq, bind, less, many}
 use Rattle.grammar.specs.Reader.{itemTable, item, endsItems, items, groupRest, labelGroup, endsGroups, groups, bodyFrom}
@@ -244,24 +245,24 @@ abbrev oneGroup : Res Group → Res (List Group)
 oneGroup (got g k) = got (g ∷ []) k
 oneGroup (bad y w) = bad y w
 
-module _ (i a size : ℕ) (all : List Token) (s : Progress) where
-  label-step : tokenAt all (s .at) .kind ≡ Label → labelGroup base [] (s .at) (drop (s .at) all) ≡ oneMore (groupRest base (s .at) (tokenAt all (s .at)) (s .at + 1) (drop (s .at + 1) all))
+module _ (strict : Bool) (i a size : ℕ) (all : List Token) (s : Progress) where
+  label-step : tokenAt all (s .at) .kind ≡ Label → labelGroup (pushing strict) [] (s .at) (drop (s .at) all) ≡ oneMore (groupRest (pushing strict) (s .at) (tokenAt all (s .at)) (s .at + 1) (drop (s .at + 1) all))
   unfolding labelGroup choose
   label-step e =
-      look-at (λ t. choose ((Label, on (groupRest base (s .at) t)) ∷ []) (refuse (plain 5)) (t .kind)) (s .at) all
+      look-at (λ t. choose ((Label, on (groupRest (pushing strict) (s .at) t)) ∷ []) (refuse (plain 5)) (t .kind)) (s .at) all
       ∙ rw (e, add-one)
 
   -- no label, or no colon behind it
   not-a-label : {st ar st′ ar′ : List ℕ} → (tokenAt all (s .at) .kind ≡ Label → ⊥)
-      → GroupsParsed s i a size (oneGroup (labelGroup base [] (s .at) (drop (s .at) all))) st ar (Refused 5 (s .at)) st′ ar′
+      → GroupsParsed s i a size (oneGroup (labelGroup (pushing strict) [] (s .at) (drop (s .at) all))) st ar (Refused 5 (s .at)) st′ ar′
   unfolding labelGroup choose
   not-a-label e =
-      let step : labelGroup base [] (s .at) (drop (s .at) all) ≡ bad (plain 5) (s .at) =
-      look-at (λ t. choose ((Label, on (groupRest base (s .at) t)) ∷ []) (refuse (plain 5)) (t .kind)) (s .at) all ∙ rw (ne-eqb _ _ e) in
+      let step : labelGroup (pushing strict) [] (s .at) (drop (s .at) all) ≡ bad (plain 5) (s .at) =
+      look-at (λ t. choose ((Label, on (groupRest (pushing strict) (s .at) t)) ∷ []) (refuse (plain 5)) (t .kind)) (s .at) all ∙ rw (ne-eqb _ _ e) in
       refused-parsed groupsAnswer groupRecords groupsArguments i a (plain 5) (s .at) (ap oneGroup step) refl refl (sym (add-zero (s .at)))
 
   no-colon : {st ar st′ ar′ : List ℕ} → tokenAt all (s .at) .kind ≡ Label → (tokenAt all (s .at + 1) .kind ≡ Colon → ⊥)
-      → GroupsParsed s i a size (oneGroup (labelGroup base [] (s .at) (drop (s .at) all))) st ar (Refused 1 (s .at + 1)) st′ ar′
+      → GroupsParsed s i a size (oneGroup (labelGroup (pushing strict) [] (s .at) (drop (s .at) all))) st ar (Refused 1 (s .at + 1)) st′ ar′
   unfolding groupRest
   no-colon e f =
       refused-parsed groupsAnswer groupRecords groupsArguments i a (plain 1) (s .at + 1)
@@ -272,13 +273,13 @@ module _ (i a size : ℕ) (all : List Token) (s : Progress) where
   abbrev theGroup : ℕ → List (List Simple) → Group
   theGroup n is = record { first = s .at; end = s .at + 2 + n; token = tokenAt all (s .at); inner = flatten is }
 
-  label-read : (x : Res (List (List Simple))) → tokenAt all (s .at) .kind ≡ Label → tokenAt all (s .at + 1) .kind ≡ Colon → items false 6 (s .at + 2) (drop (s .at + 2) all) ≡ x
-      → labelGroup base [] (s .at) (drop (s .at) all) ≡ oneMore (oneMore (joined x (λ is q ts. got (record { first = s .at; end = q; token = tokenAt all (s .at); inner = flatten is }) 0) (s .at + 2) (drop (s .at + 2) all)))
+  label-read : (x : Res (List (List Simple))) → tokenAt all (s .at) .kind ≡ Label → tokenAt all (s .at + 1) .kind ≡ Colon → items strict 6 (s .at + 2) (drop (s .at + 2) all) ≡ x
+      → labelGroup (pushing strict) [] (s .at) (drop (s .at) all) ≡ oneMore (oneMore (joined x (λ is q ts. got (record { first = s .at; end = q; token = tokenAt all (s .at); inner = flatten is }) 0) (s .at + 2) (drop (s .at + 2) all)))
   unfolding groupRest seq
   label-read x e f g =
       let two : s .at + 1 + 1 ≡ s .at + 2 = omega arith in
       label-step e
-      ∙ ap oneMore (expect-taken Colon (plain 1) (λ c. seq (items false 6) (λ is q ts. got (record { first = s .at; end = q; token = tokenAt all (s .at); inner = flatten is }) 0)) (s .at + 1) all f)
+      ∙ ap oneMore (expect-taken Colon (plain 1) (λ c. seq (items strict 6) (λ is q ts. got (record { first = s .at; end = q; token = tokenAt all (s .at); inner = flatten is }) 0)) (s .at + 1) all f)
       ∙ rw (two, g)
 
   label-piece : {n l m : ℕ} {rs qs : List (List ℕ)} {st ar st₁ ar₁ st₂ : List ℕ} {t : Progress}
@@ -299,14 +300,14 @@ module _ (i a size : ℕ) (all : List Token) (s : Progress) where
   label-parsed : {st ar st₁ ar₁ st₂ : List ℕ} {t : Progress}
       → tokenAt all (s .at) .kind ≡ Label
       → tokenAt all (s .at + 1) .kind ≡ Colon
-      → ItemsLeft false 6 i a size all (skipped s 2 1) st ar (Done t) st₁ ar₁
+      → ItemsLeft strict 6 i a size all (skipped s 2 1) st ar (Done t) st₁ ar₁
       → st₂ ≡ put statementWidth st₁ (s .statements) (labelWords s i a t)
-      → GroupsParsed s i a size (oneGroup (labelGroup base [] (s .at) (drop (s .at) all))) st ar (Done t) st₂ ar₁
+      → GroupsParsed s i a size (oneGroup (labelGroup (pushing strict) [] (s .at) (drop (s .at) all))) st ar (Done t) st₂ ar₁
   unfolding groupRecords groupCount groupArguments
-  label-parsed {st} {ar} {st₁} {ar₁} {st₂} {t} e f v w = go (items false 6 (s .at + 2) (drop (s .at + 2) all)) refl
+  label-parsed {st} {ar} {st₁} {ar₁} {st₂} {t} e f v w = go (items strict 6 (s .at + 2) (drop (s .at + 2) all)) refl
     where
-      go : (x : Res (List (List Simple))) → items false 6 (s .at + 2) (drop (s .at + 2) all) ≡ x
-          → GroupsParsed s i a size (oneGroup (labelGroup base [] (s .at) (drop (s .at) all))) st ar (Done t) st₂ ar₁
+      go : (x : Res (List (List Simple))) → items strict 6 (s .at + 2) (drop (s .at + 2) all) ≡ x
+          → GroupsParsed s i a size (oneGroup (labelGroup (pushing strict) [] (s .at) (drop (s .at) all))) st ar (Done t) st₂ ar₁
       go (bad y q) g = absurd (let f : Done t ≡ Refused (number y) (q + beyond y) = v .is ∙ ap (λ x. simpleAnswer (skipped s 2 1) (flattened x)) g in let z : _≡_ {A = ℕ} 0 1 = cc in omega arith)
       go (got is n) g =
           let v′ : SimpleParsed (skipped s 2 1) i a size (got (flatten is) n) st ar (Done t) st₁ ar₁ = rw g at v in
@@ -327,23 +328,23 @@ module _ (i a size : ℕ) (all : List Token) (s : Progress) where
   label-refused : {st ar st₁ ar₁ : List ℕ} {c q : ℕ}
       → tokenAt all (s .at) .kind ≡ Label
       → tokenAt all (s .at + 1) .kind ≡ Colon
-      → ItemsLeft false 6 i a size all (skipped s 2 1) st ar (Refused c q) st₁ ar₁
-      → GroupsParsed s i a size (oneGroup (labelGroup base [] (s .at) (drop (s .at) all))) st ar (Refused c q) st₁ ar₁
-  label-refused {st} {ar} {st₁} {ar₁} {c} {q} e f v = go (items false 6 (s .at + 2) (drop (s .at + 2) all)) refl
+      → ItemsLeft strict 6 i a size all (skipped s 2 1) st ar (Refused c q) st₁ ar₁
+      → GroupsParsed s i a size (oneGroup (labelGroup (pushing strict) [] (s .at) (drop (s .at) all))) st ar (Refused c q) st₁ ar₁
+  label-refused {st} {ar} {st₁} {ar₁} {c} {q} e f v = go (items strict 6 (s .at + 2) (drop (s .at + 2) all)) refl
     where
-      go : (x : Res (List (List Simple))) → items false 6 (s .at + 2) (drop (s .at + 2) all) ≡ x
-          → GroupsParsed s i a size (oneGroup (labelGroup base [] (s .at) (drop (s .at) all))) st ar (Refused c q) st₁ ar₁
+      go : (x : Res (List (List Simple))) → items strict 6 (s .at + 2) (drop (s .at + 2) all) ≡ x
+          → GroupsParsed s i a size (oneGroup (labelGroup (pushing strict) [] (s .at) (drop (s .at) all))) st ar (Refused c q) st₁ ar₁
       go (got is n) g = absurd (let f : Refused c q ≡ simpleAnswer (skipped s 2 1) (got (flatten is) n) = v .is ∙ ap (λ x. simpleAnswer (skipped s 2 1) (flattened x)) g in let z : _≡_ {A = ℕ} 0 1 = cc in omega arith)
       go (bad y w) g =
           let h : Refused c q ≡ Refused (number y) (w + beyond y) = v .is ∙ ap (λ x. simpleAnswer (skipped s 2 1) (flattened x)) g in
           refused-parsed groupsAnswer groupRecords groupsArguments i a y w (ap oneGroup (label-read (bad y w) e f g)) refl (cc) (cc)
 
   -- what the label's writer needs of the items
-  label-inside : {words kept st ar st₁ ar₁ : List ℕ} {t : Progress} → Counting words kept s i a → length kept ≡ size → ItemsLeft false 6 i a size all (skipped s 2 1) st ar (Done t) st₁ ar₁
+  label-inside : {words kept st ar st₁ ar₁ : List ℕ} {t : Progress} → Counting words kept s i a → length kept ≡ size → ItemsLeft strict 6 i a size all (skipped s 2 1) st ar (Done t) st₁ ar₁
       → (s .statements + 1 ≤ t .statements) × (t .statements ≤ 65536) × (t .at ≤ 65536)
-  label-inside {words} {kept} {st} {ar} {st₁} {ar₁} {t} g len v = go (items false 6 (s .at + 2) (drop (s .at + 2) all)) refl
+  label-inside {words} {kept} {st} {ar} {st₁} {ar₁} {t} g len v = go (items strict 6 (s .at + 2) (drop (s .at + 2) all)) refl
     where
-      go : (x : Res (List (List Simple))) → items false 6 (s .at + 2) (drop (s .at + 2) all) ≡ x → (s .statements + 1 ≤ t .statements) × (t .statements ≤ 65536) × (t .at ≤ 65536)
+      go : (x : Res (List (List Simple))) → items strict 6 (s .at + 2) (drop (s .at + 2) all) ≡ x → (s .statements + 1 ≤ t .statements) × (t .statements ≤ 65536) × (t .at ≤ 65536)
       go (bad y q) e = absurd (let f : Done t ≡ Refused (number y) (q + beyond y) = v .is ∙ ap (λ x. simpleAnswer (skipped s 2 1) (flattened x)) e in let z : _≡_ {A = ℕ} 0 1 = cc in omega arith)
       go (got us n) e =
           let v′ : SimpleParsed (skipped s 2 1) i a size (got (flatten us) n) st ar (Done t) st₁ ar₁ = rw e at v in
@@ -353,32 +354,32 @@ module _ (i a size : ℕ) (all : List Token) (s : Progress) where
 
 -- ---- labels one behind the other
 
--- in document 01's rule set the names seen play no part
-names-aside : (ts : List Token) (seen seen′ : List (List ℕ)) (k p : ℕ) → many endsGroups remember (labelGroup base) seen k p ts ≡ many endsGroups remember (labelGroup base) seen′ k p ts
+-- without the rule on names those that are seen play no part
+names-aside : (strict : Bool) (ts : List Token) (seen seen′ : List (List ℕ)) (k p : ℕ) → many endsGroups remember (labelGroup (pushing strict)) seen k p ts ≡ many endsGroups remember (labelGroup (pushing strict)) seen′ k p ts
 unfolding many labelGroup
-names-aside [] seen seen′ k p = refl
-names-aside (t ∷ ts) seen seen′ (suc k) p = names-aside ts seen seen′ k (suc p)
-names-aside (t ∷ ts) seen seen′ zero p = go (endsGroups t) refl (names-aside ts)
+names-aside strict [] seen seen′ k p = refl
+names-aside strict (t ∷ ts) seen seen′ (suc k) p = names-aside strict ts seen seen′ k (suc p)
+names-aside strict (t ∷ ts) seen seen′ zero p = go (endsGroups t) refl (names-aside strict ts)
   where
-    told : (x : Res Group) → ((seen seen′ : List (List ℕ)) (k p : ℕ) → many endsGroups remember (labelGroup base) seen k p ts ≡ many endsGroups remember (labelGroup base) seen′ k p ts)
-        → bind x (λ g n. counted (suc (less n)) (consed g (many endsGroups remember (labelGroup base) (remember seen g) (less n) (suc p) ts))) ≡ bind x (λ g n. counted (suc (less n)) (consed g (many endsGroups remember (labelGroup base) (remember seen′ g) (less n) (suc p) ts)))
+    told : (x : Res Group) → ((seen seen′ : List (List ℕ)) (k p : ℕ) → many endsGroups remember (labelGroup (pushing strict)) seen k p ts ≡ many endsGroups remember (labelGroup (pushing strict)) seen′ k p ts)
+        → bind x (λ g n. counted (suc (less n)) (consed g (many endsGroups remember (labelGroup (pushing strict)) (remember seen g) (less n) (suc p) ts))) ≡ bind x (λ g n. counted (suc (less n)) (consed g (many endsGroups remember (labelGroup (pushing strict)) (remember seen′ g) (less n) (suc p) ts)))
     told (got g n) rest = ap (λ r. counted (suc (less n)) (consed g r)) (rest (remember seen g) (remember seen′ g) (less n) (suc p))
     told (bad y w) rest = refl
 
-    go : (b : Bool) → endsGroups t ≡ b → ((seen seen′ : List (List ℕ)) (k p : ℕ) → many endsGroups remember (labelGroup base) seen k p ts ≡ many endsGroups remember (labelGroup base) seen′ k p ts)
-        → many endsGroups remember (labelGroup base) seen zero p (t ∷ ts) ≡ many endsGroups remember (labelGroup base) seen′ zero p (t ∷ ts)
-    go true e rest = many-stop endsGroups remember (labelGroup base) seen p t ts e ∙ sym (many-stop endsGroups remember (labelGroup base) seen′ p t ts e)
+    go : (b : Bool) → endsGroups t ≡ b → ((seen seen′ : List (List ℕ)) (k p : ℕ) → many endsGroups remember (labelGroup (pushing strict)) seen k p ts ≡ many endsGroups remember (labelGroup (pushing strict)) seen′ k p ts)
+        → many endsGroups remember (labelGroup (pushing strict)) seen zero p (t ∷ ts) ≡ many endsGroups remember (labelGroup (pushing strict)) seen′ zero p (t ∷ ts)
+    go true e rest = many-stop endsGroups remember (labelGroup (pushing strict)) seen p t ts e ∙ sym (many-stop endsGroups remember (labelGroup (pushing strict)) seen′ p t ts e)
     go false e rest =
-        many-on endsGroups remember (labelGroup base) seen p t ts e
-        ∙ told (labelGroup base seen p (t ∷ ts)) rest
-        ∙ sym (many-on endsGroups remember (labelGroup base) seen′ p t ts e)
+        many-on endsGroups remember (labelGroup (pushing strict)) seen p t ts e
+        ∙ told (labelGroup (pushing strict) seen p (t ∷ ts)) rest
+        ∙ sym (many-on endsGroups remember (labelGroup (pushing strict)) seen′ p t ts e)
 
-group-shaped : (p : ℕ) (ts : List Token) (g : Group) (k : ℕ) {T : Why → Token → Type 0} → Holds T (LabelGroup base [] p) (NoneOrOne (LabelGroup base [] p)) p (labelGroup base [] p) ts (got g k) → 0 < k
-group-shaped p ts g zero (well h) = group-some base [] p [] g (h .follows)
-group-shaped p ts g (suc k) (well h) = omega arith
+group-shaped : (strict : Bool) (p : ℕ) (ts : List Token) (g : Group) (k : ℕ) {T : Why → Token → Type 0} → Holds T (LabelGroup (pushing strict) [] p) (NoneOrOne (LabelGroup (pushing strict) [] p)) p (labelGroup (pushing strict) [] p) ts (got g k) → 0 < k
+group-shaped strict p ts g zero (well h) = group-some (pushing strict) [] p [] g (h .follows)
+group-shaped strict p ts g (suc k) (well h) = omega arith
 
-group-tokens : (p : ℕ) (ts : List Token) (g : Group) (k : ℕ) → labelGroup base [] p ts ≡ got g k → 0 < k
-group-tokens p ts g k e = group-shaped p ts g k (rw e at (group-holds base [] p ts))
+group-tokens : (strict : Bool) (p : ℕ) (ts : List Token) (g : Group) (k : ℕ) → labelGroup (pushing strict) [] p ts ≡ got g k → 0 < k
+group-tokens strict p ts g k e = group-shaped strict p ts g k (rw e at (group-holds (pushing strict) [] p ts))
 
 -- and for one of labels alone
 groups-count : (gs : List Group) (i a : ℕ) → length (groupRecords i a gs) ≡ groupCount gs
@@ -386,10 +387,10 @@ unfolding statementRecords statementCount simpleRecords argumentsOf
 groups-count gs i a = rw (add-zero i, add-zero a, zero-add) at (as-many i a (record { main = []; groups = gs }) .0)
 
 -- labels are left to read at s
-abbrev pub GroupsLeft : ℕ → ℕ → ℕ → List Token → Progress → List ℕ → List ℕ → Items → List ℕ → List ℕ → Type 0
-GroupsLeft i a size all s = GroupsParsed s i a size (groups base (s .at) (drop (s .at) all))
+abbrev pub GroupsLeft : Bool → ℕ → ℕ → ℕ → List Token → Progress → List ℕ → List ℕ → Items → List ℕ → List ℕ → Type 0
+GroupsLeft strict i a size all s = GroupsParsed s i a size (groups (pushing strict) (s .at) (drop (s .at) all))
 
-module _ (i a size : ℕ) (all : List Token) where
+module _ (strict : Bool) (i a size : ℕ) (all : List Token) where
   label-then : {s : Progress} {st ar st₁ ar₁ st₂ ar₂ : List ℕ} {r₁ r : Items} (g : Group) (k : ℕ) (rest : Res (List Group))
       → GroupsParsed s i a size (got (g ∷ []) k) st ar r₁ st₁ ar₁
       → GroupsParsed (progressed s k (groupCount (g ∷ [])) (length (groupArguments (g ∷ [])))) i a size rest st₁ ar₁ r st₂ ar₂
@@ -411,43 +412,43 @@ module _ (i a size : ℕ) (all : List Token) where
 
   -- what a label's promise says of the turn
   groups-turn : {t next : Progress} {st ar st₁ ar₁ : List ℕ} → length all ≡ size → endsGroups (tokenAt all (t .at)) ≡ false
-      → GroupsParsed t i a size (oneGroup (labelGroup base [] (t .at) (drop (t .at) all))) st ar (Done next) st₁ ar₁
-      → Turn (GroupsLeft i a size all) t next st ar st₁ ar₁
+      → GroupsParsed t i a size (oneGroup (labelGroup (pushing strict) [] (t .at) (drop (t .at) all))) st ar (Done next) st₁ ar₁
+      → Turn (GroupsLeft strict i a size all) t next st ar st₁ ar₁
   unfolding groups
-  groups-turn {t} {next} {st} {ar} {st₁} {ar₁} len stop v = go (labelGroup base [] (t .at) (drop (t .at) all)) refl
+  groups-turn {t} {next} {st} {ar} {st₁} {ar₁} len stop v = go (labelGroup (pushing strict) [] (t .at) (drop (t .at) all)) refl
     where
-      go : (x : Res Group) → labelGroup base [] (t .at) (drop (t .at) all) ≡ x → Turn (GroupsLeft i a size all) t next st ar st₁ ar₁
+      go : (x : Res Group) → labelGroup (pushing strict) [] (t .at) (drop (t .at) all) ≡ x → Turn (GroupsLeft strict i a size all) t next st ar st₁ ar₁
       go (bad y w) e = absurd (let f : Done next ≡ Refused (number y) (w + beyond y) = v .is ∙ ap (λ x. groupsAnswer t (oneGroup x)) e in let z : _≡_ {A = ℕ} 0 1 = cc in omega arith)
-      go (got g zero) e = absurd (let f = group-tokens (t .at) (drop (t .at) all) g zero e in omega arith)
+      go (got g zero) e = absurd (let f = group-tokens strict (t .at) (drop (t .at) all) g zero e in omega arith)
       go (got g (suc n)) e =
           let v′ : GroupsParsed t i a size (got (g ∷ []) (suc n)) st ar (Done next) st₁ ar₁ = rw e at v in
           let first = parsed-piece groupsAnswer groupRecords groupsArguments i a v′ refl in
           let is : next ≡ progressed t (suc n) (groupCount (g ∷ [])) (length (groupArguments (g ∷ []))) = cc (first .0) in
-          let whole = many-goes endsGroups remember (labelGroup base) [] (t .at) all g n (omega (arith, first .1 .inside)) stop e in
-          let aside = names-aside (drop (t .at + suc n) all) (remember [] g) [] 0 (t .at + suc n) in
+          let whole = many-goes endsGroups remember (labelGroup (pushing strict)) [] (t .at) all g n (omega (arith, first .1 .inside)) stop e in
+          let aside = names-aside strict (drop (t .at + suc n) all) (remember [] g) [] 0 (t .at + suc n) in
           record {
             forward = rw is (omega arith);
-            step = λ r st′ ar′ left. rw (whole, aside) (label-then g (suc n) (many endsGroups remember (labelGroup base) [] 0 (t .at + suc n) (drop (t .at + suc n) all)) v′ (rw is at left));
+            step = λ r st′ ar′ left. rw (whole, aside) (label-then g (suc n) (many endsGroups remember (labelGroup (pushing strict)) [] 0 (t .at + suc n) (drop (t .at + suc n) all)) v′ (rw is at left));
           }
 
-  groups-end : {t : Progress} {st ar : List ℕ} → length all ≡ size → t .at < size → endsGroups (tokenAt all (t .at)) ≡ true → GroupsLeft i a size all t st ar (Done t) st ar
+  groups-end : {t : Progress} {st ar : List ℕ} → length all ≡ size → t .at < size → endsGroups (tokenAt all (t .at)) ≡ true → GroupsLeft strict i a size all t st ar (Done t) st ar
   unfolding groups groupRecords groupCount groupArguments
   groups-end {t} {st} {ar} len h stop =
       piece-parsed groupsAnswer groupRecords groupsArguments i a [] (no-piece t size st ar (omega arith))
-      (many-ends endsGroups remember (labelGroup base) [] (t .at) all (omega arith) stop)
+      (many-ends endsGroups remember (labelGroup (pushing strict)) [] (t .at) all (omega arith) stop)
       refl refl refl
 
   groups-refused : {t : Progress} {c q : ℕ} {st ar st₁ ar₁ : List ℕ} → length all ≡ size → endsGroups (tokenAt all (t .at)) ≡ false
-      → GroupsParsed t i a size (oneGroup (labelGroup base [] (t .at) (drop (t .at) all))) st ar (Refused c q) st₁ ar₁
-      → GroupsLeft i a size all t st ar (Refused c q) st₁ ar₁
+      → GroupsParsed t i a size (oneGroup (labelGroup (pushing strict) [] (t .at) (drop (t .at) all))) st ar (Refused c q) st₁ ar₁
+      → GroupsLeft strict i a size all t st ar (Refused c q) st₁ ar₁
   unfolding groups
-  groups-refused {t} {c} {q} {st} {ar} {st₁} {ar₁} len stop v = go (labelGroup base [] (t .at) (drop (t .at) all)) refl
+  groups-refused {t} {c} {q} {st} {ar} {st₁} {ar₁} len stop v = go (labelGroup (pushing strict) [] (t .at) (drop (t .at) all)) refl
     where
-      go : (x : Res Group) → labelGroup base [] (t .at) (drop (t .at) all) ≡ x → GroupsParsed t i a size (many endsGroups remember (labelGroup base) [] 0 (t .at) (drop (t .at) all)) st ar (Refused c q) st₁ ar₁
+      go : (x : Res Group) → labelGroup (pushing strict) [] (t .at) (drop (t .at) all) ≡ x → GroupsParsed t i a size (many endsGroups remember (labelGroup (pushing strict)) [] 0 (t .at) (drop (t .at) all)) st ar (Refused c q) st₁ ar₁
       go (got g k) e = absurd (let f : Refused c q ≡ groupsAnswer t (got (g ∷ []) k) = v .is ∙ ap (λ x. groupsAnswer t (oneGroup x)) e in let z : _≡_ {A = ℕ} 0 1 = cc in omega arith)
       go (bad y w) e =
           let f : Refused c q ≡ Refused (number y) (w + beyond y) = v .is ∙ ap (λ x. groupsAnswer t (oneGroup x)) e in
-          let whole = many-bad endsGroups remember (labelGroup base) [] (t .at) all y w stop e in
+          let whole = many-bad endsGroups remember (labelGroup (pushing strict)) [] (t .at) all y w stop e in
           refused-parsed groupsAnswer groupRecords groupsArguments i a y w whole refl (cc) (cc)
 
 -- ---- the body
@@ -473,27 +474,27 @@ abbrev pub shut : List Token → Items → Items
 shut all (Done t) = cond (eqb (tokenAt all (t .at) .kind) CloseBrace) (Done (skipped t 1 0)) (Refused 5 (t .at))
 shut all (Refused c q) = Refused c q
 
-module _ (i a size : ℕ) (all : List Token) (s : Progress) where
+module _ (strict : Bool) (i a size : ℕ) (all : List Token) (s : Progress) where
   abbrev rest : List (List Simple) → ℕ → List Token → Res Reading
-  rest is = seq (groups base) (λ gs. expect CloseBrace (plain 5) (λ c q ts. got (record { main = flatten is; groups = gs }) 0))
+  rest is = seq (groups (pushing strict)) (λ gs. expect CloseBrace (plain 5) (λ c q ts. got (record { main = flatten is; groups = gs }) 0))
 
   -- no opening brace
-  pub no-brace : {st ar st′ ar′ : List ℕ} → (tokenAt all (s .at) .kind ≡ OpenBrace → ⊥) → BodyParsed s i a size (bodyFrom base (s .at) (drop (s .at) all)) st ar (Refused 1 (s .at)) st′ ar′
+  pub no-brace : {st ar st′ ar′ : List ℕ} → (tokenAt all (s .at) .kind ≡ OpenBrace → ⊥) → BodyParsed s i a size (bodyFrom (pushing strict) (s .at) (drop (s .at) all)) st ar (Refused 1 (s .at)) st′ ar′
   unfolding bodyFrom
   no-brace e =
       refused-parsed bodyAnswer statementRecords argumentRecords i a (plain 1) (s .at) (expect-refused OpenBrace (plain 1) (λ o. seq (items true 5) rest) (s .at) all e) refl refl (sym (add-zero (s .at)))
 
-  opened : tokenAt all (s .at) .kind ≡ OpenBrace → bodyFrom base (s .at) (drop (s .at) all) ≡ oneMore (seq (items true 5) rest (s .at + 1) (drop (s .at + 1) all))
+  opened : tokenAt all (s .at) .kind ≡ OpenBrace → bodyFrom (pushing strict) (s .at) (drop (s .at) all) ≡ oneMore (seq (items true 5) rest (s .at + 1) (drop (s .at + 1) all))
   unfolding bodyFrom
   opened e = expect-taken OpenBrace (plain 1) (λ o. seq (items true 5) rest) (s .at) all e
 
   -- an item of the macro part is refused
   main-refused : {st ar st₁ ar₁ : List ℕ} {c q : ℕ} → tokenAt all (s .at) .kind ≡ OpenBrace
       → ItemsLeft true 5 i a size all (skipped s 1 0) st ar (Refused c q) st₁ ar₁
-      → BodyParsed s i a size (bodyFrom base (s .at) (drop (s .at) all)) st ar (Refused c q) st₁ ar₁
+      → BodyParsed s i a size (bodyFrom (pushing strict) (s .at) (drop (s .at) all)) st ar (Refused c q) st₁ ar₁
   main-refused {st} {ar} {st₁} {ar₁} {c} {q} e v = go (items true 5 (s .at + 1) (drop (s .at + 1) all)) refl
     where
-      go : (x : Res (List (List Simple))) → items true 5 (s .at + 1) (drop (s .at + 1) all) ≡ x → BodyParsed s i a size (bodyFrom base (s .at) (drop (s .at) all)) st ar (Refused c q) st₁ ar₁
+      go : (x : Res (List (List Simple))) → items true 5 (s .at + 1) (drop (s .at + 1) all) ≡ x → BodyParsed s i a size (bodyFrom (pushing strict) (s .at) (drop (s .at) all)) st ar (Refused c q) st₁ ar₁
       go (got us n) f = absurd (let g : Refused c q ≡ simpleAnswer (skipped s 1 0) (got (flatten us) n) = v .is ∙ ap (λ x. simpleAnswer (skipped s 1 0) (flattened x)) f in let z : _≡_ {A = ℕ} 0 1 = cc in omega arith)
       go (bad y w) f =
           let g : Refused c q ≡ Refused (number y) (w + beyond y) = v .is ∙ ap (λ x. simpleAnswer (skipped s 1 0) (flattened x)) f in
@@ -505,10 +506,10 @@ module _ (i a size : ℕ) (all : List Token) (s : Progress) where
       → tokenAt all (s .at) .kind ≡ OpenBrace
       → items true 5 (s .at + 1) (drop (s .at + 1) all) ≡ got us n
       → SimpleParsed (skipped s 1 0) i a size (got (flatten us) n) st ar (Done t) st₁ ar₁
-      → GroupsLeft i a size all t st₁ ar₁ r st₂ ar₂
-      → BodyParsed s i a size (bodyFrom base (s .at) (drop (s .at) all)) st ar (shut all r) st₂ ar₂
+      → GroupsLeft strict i a size all t st₁ ar₁ r st₂ ar₂
+      → BodyParsed s i a size (bodyFrom (pushing strict) (s .at) (drop (s .at) all)) st ar (shut all r) st₂ ar₂
   unfolding statementRecords argumentRecords statementCount argumentCount allArguments
-  finished {st} {ar} {st₁} {ar₁} {st₂} {ar₂} {t} {r} us n inside e f v w = go (groups base (t .at) (drop (t .at) all)) refl
+  finished {st} {ar} {st₁} {ar₁} {st₂} {ar₂} {t} {r} us n inside e f v w = go (groups (pushing strict) (t .at) (drop (t .at) all)) refl
     where
       first : (Done t ≡ Done (progressed (skipped s 1 0) n (length (flatten us)) (length (argumentsOf (flatten us))))) × Piece (skipped s 1 0) size n (length (flatten us)) (length (argumentsOf (flatten us))) (simpleRecords (i + (s .statements + 0)) (a + s .arguments) (flatten us)) (simpleArguments (flatten us)) st ar (progressed (skipped s 1 0) n (length (flatten us)) (length (argumentsOf (flatten us)))) st₁ ar₁
       first = parsed-piece simpleAnswer simpleRecords simpleArguments i a v refl
@@ -530,13 +531,13 @@ module _ (i a size : ℕ) (all : List Token) (s : Progress) where
       at : t .at ≡ s .at + 1 + n
       at = ap (λ (x : Progress). x .at) is
 
-      behind : bodyFrom base (s .at) (drop (s .at) all) ≡ oneMore (counted n (rest us (t .at) (drop (t .at) all)))
+      behind : bodyFrom (pushing strict) (s .at) (drop (s .at) all) ≡ oneMore (counted n (rest us (t .at) (drop (t .at) all)))
       behind = opened e ∙ ap oneMore (seq-got (items true 5) rest (s .at + 1) n all us f ∙ ap (λ (p : ℕ). counted n (rest us p (drop p all))) (sym at))
 
-      go : (x : Res (List Group)) → groups base (t .at) (drop (t .at) all) ≡ x → BodyParsed s i a size (bodyFrom base (s .at) (drop (s .at) all)) st ar (shut all r) st₂ ar₂
+      go : (x : Res (List Group)) → groups (pushing strict) (t .at) (drop (t .at) all) ≡ x → BodyParsed s i a size (bodyFrom (pushing strict) (s .at) (drop (s .at) all)) st ar (shut all r) st₂ ar₂
       go (bad y q) g =
           let told : r ≡ Refused (number y) (q + beyond y) = w .is ∙ ap (groupsAnswer t) g in
-          rw told (refused-parsed bodyAnswer statementRecords argumentRecords i a y q (behind ∙ ap (λ x. oneMore (counted n x)) (seq-bad (groups base) (λ gs. expect CloseBrace (plain 5) (λ c q ts. got (record { main = flatten us; groups = gs }) 0)) (t .at) (drop (t .at) all) y q g)) refl refl refl)
+          rw told (refused-parsed bodyAnswer statementRecords argumentRecords i a y q (behind ∙ ap (λ x. oneMore (counted n x)) (seq-bad (groups (pushing strict)) (λ gs. expect CloseBrace (plain 5) (λ c q ts. got (record { main = flatten us; groups = gs }) 0)) (t .at) (drop (t .at) all) y q g)) refl refl refl)
       go (got gs k) g =
           let w′ : GroupsParsed t i a size (got gs k) st₁ ar₁ r st₂ ar₂ = rw g at w in
           let second = parsed-piece groupsAnswer groupRecords groupsArguments i a w′ refl in
@@ -545,12 +546,12 @@ module _ (i a size : ℕ) (all : List Token) (s : Progress) where
           u : Progress
           u = progressed t k (groupCount gs) (length (groupArguments gs))
 
-          read-to : bodyFrom base (s .at) (drop (s .at) all) ≡ oneMore (counted n (counted k (expect CloseBrace (plain 5) (λ c q ts. got (record { main = flatten us; groups = gs }) 0) (t .at + k) (drop (t .at + k) all))))
-          read-to = behind ∙ ap (λ x. oneMore (counted n x)) (seq-got (groups base) (λ gs. expect CloseBrace (plain 5) (λ c q ts. got (record { main = flatten us; groups = gs }) 0)) (t .at) k all gs g)
+          read-to : bodyFrom (pushing strict) (s .at) (drop (s .at) all) ≡ oneMore (counted n (counted k (expect CloseBrace (plain 5) (λ c q ts. got (record { main = flatten us; groups = gs }) 0) (t .at + k) (drop (t .at + k) all))))
+          read-to = behind ∙ ap (λ x. oneMore (counted n x)) (seq-got (groups (pushing strict)) (λ gs. expect CloseBrace (plain 5) (λ c q ts. got (record { main = flatten us; groups = gs }) 0)) (t .at) k all gs g)
 
           brace : (b : Bool) → eqb (tokenAt all (t .at + k) .kind) CloseBrace ≡ b
               → Piece t size k (groupCount gs) (length (groupArguments gs)) (groupRecords (i + t .statements) (a + t .arguments) gs) (groupsArguments gs) st₁ ar₁ u st₂ ar₂
-              → BodyParsed s i a size (bodyFrom base (s .at) (drop (s .at) all)) st ar (cond b (Done (skipped u 1 0)) (Refused 5 (t .at + k))) st₂ ar₂
+              → BodyParsed s i a size (bodyFrom (pushing strict) (s .at) (drop (s .at) all)) st ar (cond b (Done (skipped u 1 0)) (Refused 5 (t .at + k))) st₂ ar₂
           brace false h p =
               refused-parsed bodyAnswer statementRecords argumentRecords i a (plain 5) (t .at + k)
               (read-to ∙ ap (λ x. oneMore (counted n (counted k x))) (expect-refused CloseBrace (plain 5) (λ c q ts. got (record { main = flatten us; groups = gs }) 0) (t .at + k) all (eqb-false _ _ h)))
@@ -570,47 +571,48 @@ module _ (i a size : ℕ) (all : List Token) (s : Progress) where
       → ((q : ℕ) → 0 < tokenAt all q .kind → q < size)
       → tokenAt all (s .at) .kind ≡ OpenBrace
       → ItemsLeft true 5 i a size all (skipped s 1 0) st ar (Done t) st₁ ar₁
-      → GroupsLeft i a size all t st₁ ar₁ r st₂ ar₂
-      → BodyParsed s i a size (bodyFrom base (s .at) (drop (s .at) all)) st ar (shut all r) st₂ ar₂
+      → GroupsLeft strict i a size all t st₁ ar₁ r st₂ ar₂
+      → BodyParsed s i a size (bodyFrom (pushing strict) (s .at) (drop (s .at) all)) st ar (shut all r) st₂ ar₂
   body-parsed {st} {ar} {st₁} {ar₁} {st₂} {ar₂} {t} {r} inside e v w = go (items true 5 (s .at + 1) (drop (s .at + 1) all)) refl
     where
-      go : (x : Res (List (List Simple))) → items true 5 (s .at + 1) (drop (s .at + 1) all) ≡ x → BodyParsed s i a size (bodyFrom base (s .at) (drop (s .at) all)) st ar (shut all r) st₂ ar₂
+      go : (x : Res (List (List Simple))) → items true 5 (s .at + 1) (drop (s .at + 1) all) ≡ x → BodyParsed s i a size (bodyFrom (pushing strict) (s .at) (drop (s .at) all)) st ar (shut all r) st₂ ar₂
       go (bad y q) f = absurd (let g : Done t ≡ Refused (number y) (q + beyond y) = v .is ∙ ap (λ x. simpleAnswer (skipped s 1 0) (flattened x)) f in let z : _≡_ {A = ℕ} 0 1 = cc in omega arith)
       go (got us n) f = finished us n inside e f (rw f at v) w
 
 -- ---- the body's loop
 
 -- the body from its brace at s on
-abbrev pub BodyLeft : ℕ → ℕ → ℕ → List Token → Progress → List ℕ → List ℕ → Items → List ℕ → List ℕ → Type 0
-BodyLeft i a size all s = BodyParsed s i a size (bodyFrom base (s .at) (drop (s .at) all))
+abbrev pub BodyLeft : Bool → ℕ → ℕ → ℕ → List Token → Progress → List ℕ → List ℕ → Items → List ℕ → List ℕ → Type 0
+BodyLeft strict i a size all s = BodyParsed s i a size (bodyFrom (pushing strict) (s .at) (drop (s .at) all))
 
 -- the same of the body whose first item stands at t₀
-abbrev pub Promised : ℕ → ℕ → ℕ → List Token → Progress → List ℕ → List ℕ → Items → List ℕ → List ℕ → Type 0
-Promised i a size all t₀ st₀ ar₀ r st′ ar′ = (s : Progress) → t₀ ≡ skipped s 1 0 → tokenAt all (s .at) .kind ≡ OpenBrace → BodyLeft i a size all s st₀ ar₀ r st′ ar′
+abbrev pub Promised : Bool → ℕ → ℕ → ℕ → List Token → Progress → List ℕ → List ℕ → Items → List ℕ → List ℕ → Type 0
+Promised strict i a size all t₀ st₀ ar₀ r st′ ar′ = (s : Progress) → t₀ ≡ skipped s 1 0 → tokenAt all (s .at) .kind ≡ OpenBrace → BodyLeft strict i a size all s st₀ ar₀ r st′ ar′
 
 -- labels from t on: whatever is promised of them is promised of the body, with the brace behind them
-abbrev pub Onward : ℕ → ℕ → ℕ → List Token → Progress → List ℕ → List ℕ → Progress → List ℕ → List ℕ → Type 0
-Onward i a size all t₀ st₀ ar₀ t st ar = (r : Items) (st′ ar′ : List ℕ) → GroupsLeft i a size all t st ar r st′ ar′ → Promised i a size all t₀ st₀ ar₀ (shut all r) st′ ar′
+abbrev pub Onward : Bool → ℕ → ℕ → ℕ → List Token → Progress → List ℕ → List ℕ → Progress → List ℕ → List ℕ → Type 0
+Onward strict i a size all t₀ st₀ ar₀ t st ar = (r : Items) (st′ ar′ : List ℕ) → GroupsLeft strict i a size all t st ar r st′ ar′ → Promised strict i a size all t₀ st₀ ar₀ (shut all r) st′ ar′
 
 -- the items of a label are read, whose own record is not yet written
-pub record InLabel (text words kept : List ℕ) (i a : ℕ) (t₀ : Progress) (st₀ ar₀ : List ℕ) (wrong : ℕ) (t label : Progress) (st ar : List ℕ) : Type 0 where
+pub record InLabel (strict : Bool) (text words kept : List ℕ) (i a : ℕ) (t₀ : Progress) (st₀ ar₀ : List ℕ) (takes : Bool) (wrong : ℕ) (t label : Progress) (st ar : List ℕ) : Type 0 where
+  pub push : takes ≡ strict
   pub six : wrong ≡ 6
   pub here : t ≡ skipped label 2 1
   pub sign : tokenAt (view text words kept) (label .at) .kind ≡ Label
   pub colon : tokenAt (view text words kept) (label .at + 1) .kind ≡ Colon
   pub counting : Counting words kept label i a
-  pub onward : Onward i a (length kept) (view text words kept) t₀ st₀ ar₀ label st ar
+  pub onward : Onward strict i a (length kept) (view text words kept) t₀ st₀ ar₀ label st ar
 
--- the macro part's items, or a label's, by whether a push takes a literal
-abbrev pub Part : List ℕ → List ℕ → List ℕ → ℕ → ℕ → Progress → List ℕ → List ℕ → Bool → ℕ → Progress → Progress → List ℕ → List ℕ → Type 0
-Part text words kept i a t₀ st₀ ar₀ true wrong t label st ar = (wrong ≡ 5) × (t ≡ t₀) × (st ≡ st₀) × (ar ≡ ar₀)
-Part text words kept i a t₀ st₀ ar₀ false wrong t label st ar = InLabel text words kept i a t₀ st₀ ar₀ wrong t label st ar
+-- the macro part's items, or a label's, by whether a label has been opened
+abbrev pub Part : Bool → List ℕ → List ℕ → List ℕ → ℕ → ℕ → Progress → List ℕ → List ℕ → Bool → Bool → ℕ → Progress → Progress → List ℕ → List ℕ → Type 0
+Part strict text words kept i a t₀ st₀ ar₀ false takes wrong t label st ar = (takes ≡ true) × (wrong ≡ 5) × (t ≡ t₀) × (st ≡ st₀) × (ar ≡ ar₀)
+Part strict text words kept i a t₀ st₀ ar₀ true takes wrong t label st ar = InLabel strict text words kept i a t₀ st₀ ar₀ takes wrong t label st ar
 
-pub record BodyWalk (text words kept : List ℕ) (i a : ℕ) (t₀ : Progress) (st₀ ar₀ : List ℕ) (takes : Bool) (wrong : ℕ) (t label : Progress) (st ar : List ℕ) : Type 0 where
+pub record BodyWalk (strict : Bool) (text words kept : List ℕ) (i a : ℕ) (t₀ : Progress) (st₀ ar₀ : List ℕ) (inside takes : Bool) (wrong : ℕ) (t label : Progress) (st ar : List ℕ) : Type 0 where
   pub counting : Counting words kept t i a
   pub sameStatements : length st ≡ length st₀
   pub sameArguments : length ar ≡ length ar₀
-  pub part : Part text words kept i a t₀ st₀ ar₀ takes wrong t label st ar
+  pub part : Part strict text words kept i a t₀ st₀ ar₀ inside takes wrong t label st ar
 
 -- a label that the code finds opened
 pub record Opened (text words kept : List ℕ) (next inside : Progress) : Type 0 where
@@ -636,39 +638,39 @@ opened-label text words kept {next} {inside} e = go (eqb (kindAt words kept (nex
           further = omega (arith, there);
         }
 
-module _ (text words kept : List ℕ) (i a : ℕ) (t₀ : Progress) (st₀ ar₀ : List ℕ) where
+module _ (strict : Bool) (text words kept : List ℕ) (i a : ℕ) (t₀ : Progress) (st₀ ar₀ : List ℕ) where
   -- the part's items are read up to the next sign: the macro part's, with the tables as they are
-  pub main-read : {wrong : ℕ} {t label next : Progress} {st ar st₁ ar₁ st₂ : List ℕ} (takes : Bool) → not takes ≡ false
-      → BodyWalk text words kept i a t₀ st₀ ar₀ takes wrong t label st ar
+  pub main-read : {wrong : ℕ} {t label next : Progress} {st ar st₁ ar₁ st₂ : List ℕ} (inside takes : Bool) → inside ≡ false
+      → BodyWalk strict text words kept i a t₀ st₀ ar₀ inside takes wrong t label st ar
       → ItemsLeft takes wrong i a (length kept) (view text words kept) t st ar (Done next) st₁ ar₁
       → st₂ ≡ st₁
-      → Onward i a (length kept) (view text words kept) t₀ st₀ ar₀ next st₂ ar₁
-  main-read {wrong} {t} {label} {next} {st} {ar} {st₁} {ar₁} {st₂} false e p v w = absurd (let z : _≡_ {A = ℕ} 0 1 = cc in omega arith)
-  main-read {wrong} {t} {label} {next} {st} {ar} {st₁} {ar₁} {st₂} true e p v w =
+      → Onward strict i a (length kept) (view text words kept) t₀ st₀ ar₀ next st₂ ar₁
+  main-read {wrong} {t} {label} {next} {st} {ar} {st₁} {ar₁} {st₂} true takes e p v w = absurd (let z : _≡_ {A = ℕ} 0 1 = cc in omega arith)
+  main-read {wrong} {t} {label} {next} {st} {ar} {st₁} {ar₁} {st₂} false takes e p v w =
       λ r st′ ar′ left s f brace.
-      body-parsed i a (length kept) (view text words kept) s (view-inside text words kept) brace (rw (p .part .0, p .part .1, f, p .part .2, p .part .3) at v) (rw w at left)
+      body-parsed strict i a (length kept) (view text words kept) s (view-inside text words kept) brace (rw (p .part .0, p .part .1, p .part .2, f, p .part .3, p .part .4) at v) (rw w at left)
 
   -- a label's, with its own record written behind them
-  pub label-told : {wrong : ℕ} {t label next : Progress} {st ar st₁ ar₁ st₂ : List ℕ} (takes : Bool) → not takes ≡ true
-      → BodyWalk text words kept i a t₀ st₀ ar₀ takes wrong t label st ar
+  pub label-told : {wrong : ℕ} {t label next : Progress} {st ar st₁ ar₁ st₂ : List ℕ} (inside takes : Bool) → inside ≡ true
+      → BodyWalk strict text words kept i a t₀ st₀ ar₀ inside takes wrong t label st ar
       → ItemsLeft takes wrong i a (length kept) (view text words kept) t st ar (Done next) st₁ ar₁
       → st₂ ≡ put statementWidth st₁ (label .statements) (labelWords label i a next)
-      → Onward i a (length kept) (view text words kept) t₀ st₀ ar₀ next st₂ ar₁
-  label-told {wrong} {t} {label} {next} {st} {ar} {st₁} {ar₁} {st₂} true e p v w = absurd (let z : _≡_ {A = ℕ} 0 1 = cc in omega arith)
-  label-told {wrong} {t} {label} {next} {st} {ar} {st₁} {ar₁} {st₂} false e p v w =
-      let v′ : ItemsLeft false 6 i a (length kept) (view text words kept) (skipped label 2 1) st ar (Done next) st₁ ar₁ = rw (p .part .six, p .part .here) at v in
+      → Onward strict i a (length kept) (view text words kept) t₀ st₀ ar₀ next st₂ ar₁
+  label-told {wrong} {t} {label} {next} {st} {ar} {st₁} {ar₁} {st₂} false takes e p v w = absurd (let z : _≡_ {A = ℕ} 0 1 = cc in omega arith)
+  label-told {wrong} {t} {label} {next} {st} {ar} {st₁} {ar₁} {st₂} true takes e p v w =
+      let v′ : ItemsLeft strict 6 i a (length kept) (view text words kept) (skipped label 2 1) st ar (Done next) st₁ ar₁ = rw (p .part .push, p .part .six, p .part .here) at v in
       let on : endsGroups (tokenAt (view text words kept) (label .at)) ≡ false = rw (p .part .sign) in
-      let turn = groups-turn i a (length kept) (view text words kept) (view-length text words kept) on (label-parsed i a (length kept) (view text words kept) label (p .part .sign) (p .part .colon) v′ w) in
+      let turn = groups-turn strict i a (length kept) (view text words kept) (view-length text words kept) on (label-parsed strict i a (length kept) (view text words kept) label (p .part .sign) (p .part .colon) v′ w) in
       λ r st′ ar′ left. p .part .onward r st′ ar′ (turn .step r st′ ar′ left)
 
   -- and what its writer needs
-  pub label-room : {wrong : ℕ} {t label next : Progress} {st ar st₁ ar₁ : List ℕ} (takes : Bool) → not takes ≡ true
-      → BodyWalk text words kept i a t₀ st₀ ar₀ takes wrong t label st ar
+  pub label-room : {wrong : ℕ} {t label next : Progress} {st ar st₁ ar₁ : List ℕ} (inside takes : Bool) → inside ≡ true
+      → BodyWalk strict text words kept i a t₀ st₀ ar₀ inside takes wrong t label st ar
       → ItemsLeft takes wrong i a (length kept) (view text words kept) t st ar (Done next) st₁ ar₁
       → Small label i a 0 0 0 × ((label .statements + 1 ≤ next .statements) × (next .statements ≤ 65536) × (next .at ≤ 65536))
-  label-room {wrong} {t} {label} {next} {st} {ar} {st₁} {ar₁} true e p v = absurd (let z : _≡_ {A = ℕ} 0 1 = cc in omega arith)
-  label-room {wrong} {t} {label} {next} {st} {ar} {st₁} {ar₁} false e p v =
-      let v′ : ItemsLeft false 6 i a (length kept) (view text words kept) (skipped label 2 1) st ar (Done next) st₁ ar₁ = rw (p .part .six, p .part .here) at v in
+  label-room {wrong} {t} {label} {next} {st} {ar} {st₁} {ar₁} false takes e p v = absurd (let z : _≡_ {A = ℕ} 0 1 = cc in omega arith)
+  label-room {wrong} {t} {label} {next} {st} {ar} {st₁} {ar₁} true takes e p v =
+      let v′ : ItemsLeft strict 6 i a (length kept) (view text words kept) (skipped label 2 1) st ar (Done next) st₁ ar₁ = rw (p .part .push, p .part .six, p .part .here) at v in
       let g = p .part .counting in (
         record {
           at = omega (arith, g .list .few, g .inside);
@@ -680,66 +682,66 @@ module _ (text words kept : List ℕ) (i a : ℕ) (t₀ : Progress) (st₀ ar₀
           own = omega arith;
           place = omega arith;
         },
-        label-inside i a (length kept) (view text words kept) label g refl v′,
+        label-inside strict i a (length kept) (view text words kept) label g refl v′,
       )
 
   -- an item is refused
-  pub part-refused : {wrong c q : ℕ} {t label : Progress} {st ar st₁ ar₁ : List ℕ} (takes : Bool)
-      → BodyWalk text words kept i a t₀ st₀ ar₀ takes wrong t label st ar
+  pub part-refused : {wrong c q : ℕ} {t label : Progress} {st ar st₁ ar₁ : List ℕ} (inside takes : Bool)
+      → BodyWalk strict text words kept i a t₀ st₀ ar₀ inside takes wrong t label st ar
       → ItemsLeft takes wrong i a (length kept) (view text words kept) t st ar (Refused c q) st₁ ar₁
-      → Promised i a (length kept) (view text words kept) t₀ st₀ ar₀ (Refused c q) st₁ ar₁
-  part-refused {wrong} {c} {q} {t} {label} {st} {ar} {st₁} {ar₁} true p v =
-      λ s f brace. main-refused i a (length kept) (view text words kept) s brace (rw (p .part .0, p .part .1, f, p .part .2, p .part .3) at v)
-  part-refused {wrong} {c} {q} {t} {label} {st} {ar} {st₁} {ar₁} false p v =
-      let v′ : ItemsLeft false 6 i a (length kept) (view text words kept) (skipped label 2 1) st ar (Refused c q) st₁ ar₁ = rw (p .part .six, p .part .here) at v in
+      → Promised strict i a (length kept) (view text words kept) t₀ st₀ ar₀ (Refused c q) st₁ ar₁
+  part-refused {wrong} {c} {q} {t} {label} {st} {ar} {st₁} {ar₁} false takes p v =
+      λ s f brace. main-refused strict i a (length kept) (view text words kept) s brace (rw (p .part .0, p .part .1, p .part .2, f, p .part .3, p .part .4) at v)
+  part-refused {wrong} {c} {q} {t} {label} {st} {ar} {st₁} {ar₁} true takes p v =
+      let v′ : ItemsLeft strict 6 i a (length kept) (view text words kept) (skipped label 2 1) st ar (Refused c q) st₁ ar₁ = rw (p .part .push, p .part .six, p .part .here) at v in
       let on : endsGroups (tokenAt (view text words kept) (label .at)) ≡ false = rw (p .part .sign) in
-      p .part .onward (Refused c q) st₁ ar₁ (groups-refused i a (length kept) (view text words kept) (view-length text words kept) on (label-refused i a (length kept) (view text words kept) label (p .part .sign) (p .part .colon) v′))
+      p .part .onward (Refused c q) st₁ ar₁ (groups-refused strict i a (length kept) (view text words kept) (view-length text words kept) on (label-refused strict i a (length kept) (view text words kept) label (p .part .sign) (p .part .colon) v′))
 
   -- the body's brace stands behind them
-  pub brace-shut : {next : Progress} {st ar : List ℕ} {k : ℕ} → Onward i a (length kept) (view text words kept) t₀ st₀ ar₀ next st ar
+  pub brace-shut : {next : Progress} {st ar : List ℕ} {k : ℕ} → Onward strict i a (length kept) (view text words kept) t₀ st₀ ar₀ next st ar
       → KindAt words kept (next .at) k
       → k ≡ CloseBrace
-      → Promised i a (length kept) (view text words kept) t₀ st₀ ar₀ (Done (skipped next 1 0)) st ar
+      → Promised strict i a (length kept) (view text words kept) t₀ st₀ ar₀ (Done (skipped next 1 0)) st ar
   brace-shut {next} {st} {ar} w m e =
       let stop = groups-stop text words kept (next .at) m e in
       let there : tokenAt (view text words kept) (next .at) .kind ≡ CloseBrace = sym (kind-here text words kept (next .at) m) ∙ e in
-      let v = w (Done next) st ar (groups-end i a (length kept) (view text words kept) (view-length text words kept) (stop .1) (stop .0)) in
+      let v = w (Done next) st ar (groups-end strict i a (length kept) (view text words kept) (view-length text words kept) (stop .1) (stop .0)) in
       rw there at v
 
   -- no label opens there
-  pub unopened : {next : Progress} {st ar : List ℕ} {k c q : ℕ} → Onward i a (length kept) (view text words kept) t₀ st₀ ar₀ next st ar
+  pub unopened : {next : Progress} {st ar : List ℕ} {k c q : ℕ} → Onward strict i a (length kept) (view text words kept) t₀ st₀ ar₀ next st ar
       → KindAt words kept (next .at) k
       → (k ≡ CloseBrace → ⊥)
       → Refused c q ≡ labelOpened words kept next
-      → Promised i a (length kept) (view text words kept) t₀ st₀ ar₀ (Refused c q) st ar
+      → Promised strict i a (length kept) (view text words kept) t₀ st₀ ar₀ (Refused c q) st ar
   unopened {next} {st} {ar} {k} {c} {q} w m ne e =
       w (Refused c q) st ar
-      (groups-refused i a (length kept) (view text words kept) (view-length text words kept) (groups-go-on text words kept (next .at) m ne)
+      (groups-refused strict i a (length kept) (view text words kept) (view-length text words kept) (groups-go-on text words kept (next .at) m ne)
       (go (eqb (kindAt words kept (next .at)) Label) (eqb (kindAt words kept (next .at + 1)) Colon) refl refl e))
     where
       go : (b d : Bool) → eqb (kindAt words kept (next .at)) Label ≡ b → eqb (kindAt words kept (next .at + 1)) Colon ≡ d
           → Refused c q ≡ cond b (cond d (Done (skipped next 2 1)) (Refused 1 (next .at + 1))) (Refused 5 (next .at))
-          → GroupsParsed next i a (length kept) (oneGroup (labelGroup base [] (next .at) (drop (next .at) (view text words kept)))) st ar (Refused c q) st ar
-      go false d f g h = rw h (not-a-label i a (length kept) (view text words kept) next (λ z. eqb-false _ _ f (sym (view-kind text words kept (next .at)) ∙ z)))
+          → GroupsParsed next i a (length kept) (oneGroup (labelGroup (pushing strict) [] (next .at) (drop (next .at) (view text words kept)))) st ar (Refused c q) st ar
+      go false d f g h = rw h (not-a-label strict i a (length kept) (view text words kept) next (λ z. eqb-false _ _ f (sym (view-kind text words kept (next .at)) ∙ z)))
       go true false f g h =
           rw h
-          (no-colon i a (length kept) (view text words kept) next (view-kind text words kept (next .at) ∙ eqb-true _ _ f) (λ z. eqb-false _ _ g (sym (view-kind text words kept (next .at + 1)) ∙ z)))
+          (no-colon strict i a (length kept) (view text words kept) next (view-kind text words kept (next .at) ∙ eqb-true _ _ f) (λ z. eqb-false _ _ g (sym (view-kind text words kept (next .at + 1)) ∙ z)))
       go true true f g h = absurd (let z : _≡_ {A = ℕ} 0 1 = cc in omega arith)
 
-  pub body-starts : Counting words kept t₀ i a → (label : Progress) → BodyWalk text words kept i a t₀ st₀ ar₀ true 5 t₀ label st₀ ar₀
-  body-starts h label = record { counting = h; sameStatements = refl; sameArguments = refl; part = (refl, refl, refl, refl) }
+  pub body-starts : Counting words kept t₀ i a → (label : Progress) → BodyWalk strict text words kept i a t₀ st₀ ar₀ false true 5 t₀ label st₀ ar₀
+  body-starts h label = record { counting = h; sameStatements = refl; sameArguments = refl; part = (refl, refl, refl, refl, refl) }
 
   -- a turn further: a label opens there, and its items are next
-  pub body-steps : {next inside : Progress} {st ar : List ℕ} → Counting words kept next i a → Onward i a (length kept) (view text words kept) t₀ st₀ ar₀ next st ar
-      → Done inside ≡ labelOpened words kept next
+  pub body-steps : {next behind : Progress} {st ar : List ℕ} → Counting words kept next i a → Onward strict i a (length kept) (view text words kept) t₀ st₀ ar₀ next st ar
+      → Done behind ≡ labelOpened words kept next
       → length st ≡ length st₀
       → length ar ≡ length ar₀
-      → BodyWalk text words kept i a t₀ st₀ ar₀ false 6 inside next st ar
-  body-steps {next} {inside} {st} {ar} h w e es ea =
+      → BodyWalk strict text words kept i a t₀ st₀ ar₀ true strict 6 behind next st ar
+  body-steps {next} {behind} {st} {ar} h w e es ea =
       let o = opened-label text words kept e in
       record {
         counting = rw (o .here) (counting-skip 2 1 h (o .further) (omega arith));
         sameStatements = es;
         sameArguments = ea;
-        part = record { six = refl; here = o .here; sign = o .sign; colon = o .colon; counting = h; onward = w };
+        part = record { push = refl; six = refl; here = o .here; sign = o .sign; colon = o .colon; counting = h; onward = w };
       }

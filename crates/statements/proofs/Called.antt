@@ -5,12 +5,12 @@ use native.Mathlib.Omega.{arith}
 use mathlib.Core.Path.{_≡_, refl, sym, ap, _∙_}
 use mathlib.Core.Logic.{_↔_}
 use mathlib.Core.Bool.{Bool, true, false, cond}
-use mathlib.Core.List.{List, [], _∷_}
+use mathlib.Core.List.{List, [], _∷_, map}
 use borrow.Author.Tests.{ltb-true, ltb-false, le-ltb}
 use lib.ListN.{length, getD, take, drop}
 use lib.Dec.{ltb}
 use Rattle.tokens.specs.Number as number
-use Rattle.tokens.specs.Number.{statementWidth, argumentWidth, labelType, mostTokens}
+use Rattle.tokens.specs.Number.{statementWidth, argumentWidth, labelType, mostTokens, lenientMode, strictMode}
 use Rattle.tokens.specs.Token.{Token}
 use Rattle.tokens.specs.Kept.{keptOf, keptTokens}
 use Rattle.tokens.specs.WellFormed.{WellFormed}
@@ -19,7 +19,7 @@ use Rattle.tokens.proofs.DoorLaws.{kept-not-empty, LetThrough, Means, means-30,
 use Rattle.tokens.proofs.KeptLaws.{kept-rising}
 use Rattle.tokens.proofs.TokenLaws.{view-length}
 use Rattle.grammar.specs.Reading.{NONE, Reading}
-use Rattle.grammar.specs.Rules.{base}
+use Rattle.grammar.specs.Rules.{isMode, rulesOf}
 use Rattle.grammar.specs.Result.{Answer, read, refused}
 use Rattle.grammar.specs.Reader.{bodyAt}
 use Rattle.grammar.specs.Facts.{All}
@@ -28,16 +28,16 @@ use Rattle.grammar.specs.Records.{statementRecords, argumentRecords, statementC
 use Rattle.grammar.specs.PlainLength.{bodyInstructions, hasLength, every, plainLength}
 use Rattle.grammar.specs.Call.{ReadingNumber, refusal, bodyNumbers, afterDoor, recordsOf, filled, heldAfter}
 use Rattle.grammar.specs.Tables.{BodyTable, typeWord, firstWord, endWord, innerWord, Flat, Walk}
-use Rattle.grammar.specs.Cases.{Outcome, Row, outcome, braced, tokensOf, rows}
+use Rattle.grammar.specs.Cases.{Outcome, Row, outcome, braced, tokensOf, rows, strictRows}
 use Rattle.grammar.proofs.Lists.{all-map, all-mapped, agree-length}
 use Rattle.grammar.proofs.Numbers.{body-ours, held-refused}
 use Rattle.grammar.proofs.Demand.{body-exactly, only-one, cursor, same-refusal}
 use Rattle.grammar.proofs.Recorded.{as-many, as-wide}
 use Rattle.grammar.proofs.Lengths.{none-exactly}
 use Rattle.grammar.proofs.Tabled.{stored-filled, body-tabled, body-walked, walk-labels-all}
-use Rattle.grammar.proofs.Cases.{outcomes, rows-hold}
+use Rattle.grammar.proofs.Cases.{outcomes, rows-hold, strict-rows-hold}
 use Rattle.statements.specs.declared.entry.Body.{Body}
-use Rattle.statements.specs.Call.{values, numberOf, afterReading, readingAt, BodyCall}
+use Rattle.statements.specs.Call.{values, numberOf, afterReading, readingAt, bodyAnswered, BodyCall}
 
 -- the tables' whole records are enough for a reading's
 pub record Room (statements arguments : List ℕ) (rd : Reading) : Type 0 where
@@ -50,68 +50,75 @@ number-is e = ap (λ (u : List ℕ). getD u 0 0) e
 
 -- ---- from the numbers back to the list
 
--- the door let the call through: the list is well formed, the kept list long enough, the start inside
-abbrev pub Through : List ℕ → List ℕ → ℕ → List ℕ → Type 0
-Through text words start kept = LetThrough text words start (length kept) (length (keptOf words))
+-- the call was let through: there is such a mode, the list is well formed, the kept list long enough, the start inside
+pub record Through (mode : ℕ) (text words : List ℕ) (start : ℕ) (kept : List ℕ) : Type 0 where
+  pub known : isMode mode ≡ true
+  pub list : LetThrough text words start (length kept) (length (keptOf words))
 
 -- what the five numbers of a call say of the list and the tables. 33 and 34 are given only to a body that is accepted otherwise, where the whole records of that
 -- table are fewer than needed
-pub data Says (text words : List ℕ) (start : ℕ) (kept statements arguments : List ℕ) : List ℕ → Type 0 where
-  says-30 : {at : ℕ} → ¬ WellFormed text words → Says text words start kept statements arguments (refusal number.NotWellFormed at)
-  says-35 : WellFormed text words → length kept < length (keptOf words) → Says text words start kept statements arguments (refusal number.KeptTooShort (length (keptOf words)))
-  says-31 : WellFormed text words → length (keptOf words) ≤ length kept → length (keptOf words) ≤ start → Says text words start kept statements arguments (refusal number.StartOutside start)
-  says-refused : {c q : ℕ} → Through text words start kept → ReadingNumber c → readingAt text words start ≡ refused c q → Says text words start kept statements arguments (refusal c q)
+pub data Says (mode : ℕ) (text words : List ℕ) (start : ℕ) (kept statements arguments : List ℕ) : List ℕ → Type 0 where
+  says-36 : isMode mode ≡ false → Says mode text words start kept statements arguments (refusal number.UnknownMode 0)
+  says-30 : {at : ℕ} → isMode mode ≡ true → ¬ WellFormed text words → Says mode text words start kept statements arguments (refusal number.NotWellFormed at)
+  says-35 : isMode mode ≡ true → WellFormed text words → length kept < length (keptOf words) → Says mode text words start kept statements arguments (refusal number.KeptTooShort (length (keptOf words)))
+  says-31 : isMode mode ≡ true → WellFormed text words → length (keptOf words) ≤ length kept → length (keptOf words) ≤ start → Says mode text words start kept statements arguments (refusal number.StartOutside start)
+  says-refused : {c q : ℕ} → Through mode text words start kept → ReadingNumber c → readingAt mode text words start ≡ refused c q → Says mode text words start kept statements arguments (refusal c q)
   says-33 : (n : ℕ) (rd : Reading)
-      → Through text words start kept
-      → Follows base (keptTokens text words) start n rd
+      → Through mode text words start kept
+      → Follows (rulesOf mode) (keptTokens text words) start n rd
       → length statements / statementWidth < statementCount rd
-      → Says text words start kept statements arguments (refusal number.StatementsTooSmall (statementCount rd))
+      → Says mode text words start kept statements arguments (refusal number.StatementsTooSmall (statementCount rd))
   says-34 : (n : ℕ) (rd : Reading)
-      → Through text words start kept
-      → Follows base (keptTokens text words) start n rd
+      → Through mode text words start kept
+      → Follows (rulesOf mode) (keptTokens text words) start n rd
       → statementCount rd ≤ length statements / statementWidth
       → length arguments / argumentWidth < argumentCount rd
-      → Says text words start kept statements arguments (refusal number.ArgumentsTooSmall (argumentCount rd))
+      → Says mode text words start kept statements arguments (refusal number.ArgumentsTooSmall (argumentCount rd))
   says-read : (n : ℕ) (rd : Reading)
-      → Through text words start kept
-      → Follows base (keptTokens text words) start n rd
+      → Through mode text words start kept
+      → Follows (rulesOf mode) (keptTokens text words) start n rd
       → Room statements arguments rd
-      → Says text words start kept statements arguments (bodyNumbers start (read rd n))
+      → Says mode text words start kept statements arguments (bodyNumbers start (read rd n))
 
-module _ (text words : List ℕ) (start : ℕ) (kept statements arguments : List ℕ) where
+module _ (mode : ℕ) (text words : List ℕ) (start : ℕ) (kept statements arguments : List ℕ) where
   -- behind the door
-  reading-says : Through text words start kept → (x : Answer Reading) → readingAt text words start ≡ x
-      → Says text words start kept statements arguments (afterReading x start (length statements) (length arguments))
+  reading-says : Through mode text words start kept → (x : Answer Reading) → readingAt mode text words start ≡ x
+      → Says mode text words start kept statements arguments (afterReading x start (length statements) (length arguments))
   unfolding afterReading
-  reading-says l (refused c q) e = says-refused l (body-ours base (keptTokens text words) start c q e) e
+  reading-says l (refused c q) e = says-refused l (body-ours (rulesOf mode) (keptTokens text words) start c q e) e
   reading-says l (read rd n) e = go (ltb (length statements / statementWidth) (statementCount rd)) refl (ltb (length arguments / argumentWidth) (argumentCount rd)) refl
     where
-      follows : Follows base (keptTokens text words) start n rd
-      follows = body-exactly base (keptTokens text words) start n rd .0 e
+      follows : Follows (rulesOf mode) (keptTokens text words) start n rd
+      follows = body-exactly (rulesOf mode) (keptTokens text words) start n rd .0 e
 
       go : (b : Bool) → ltb (length statements / statementWidth) (statementCount rd) ≡ b → (d : Bool) → ltb (length arguments / argumentWidth) (argumentCount rd) ≡ d
-          → Says text words start kept statements arguments
+          → Says mode text words start kept statements arguments
           (cond b (refusal number.StatementsTooSmall (statementCount rd)) (cond d (refusal number.ArgumentsTooSmall (argumentCount rd)) (bodyNumbers start (read rd n))))
       go true eb d ed = says-33 n rd l follows (ltb-true _ _ eb)
       go false eb true ed = says-34 n rd l follows (ltb-false _ _ eb) (ltb-true _ _ ed)
       go false eb false ed = says-read n rd l follows (record { forStatements = ltb-false _ _ eb; forArguments = ltb-false _ _ ed })
 
   -- and at it
-  door-says : (said : ℕ × ℕ) → Means text words start (length kept) said
-      → Says text words start kept statements arguments (afterDoor said (afterReading (readingAt text words start) start (length statements) (length arguments)))
-  door-says said (means-30 f) = says-30 f
-  door-says said (means-35 f h) = says-35 f h
-  door-says said (means-31 f h k) = says-31 f h k
-  door-says said (means-through l) = reading-says (rw (l .count) l) (readingAt text words start) refl
+  door-says : isMode mode ≡ true → (said : ℕ × ℕ) → Means text words start (length kept) said
+      → Says mode text words start kept statements arguments (afterDoor said (afterReading (readingAt mode text words start) start (length statements) (length arguments)))
+  door-says known said (means-30 f) = says-30 known f
+  door-says known said (means-35 f h) = says-35 known f h
+  door-says known said (means-31 f h k) = says-31 known f h k
+  door-says known said (means-through l) = reading-says (record { known = known; list = rw (l .count) l }) (readingAt mode text words start) refl
 
-module _ {text words : List ℕ} {start : ℕ} {kept statements arguments : List ℕ} {r : Body} {kept′ statements′ arguments′ : List ℕ}
-    (call : BodyCall text words start kept statements arguments r kept′ statements′ arguments′) where
+  -- and before it
+  entrance-says : (b : Bool) → isMode mode ≡ b → Says mode text words start kept statements arguments (bodyAnswered mode text words start (length kept) (length statements) (length arguments))
+  entrance-says false e = rw e (says-36 e)
+  entrance-says true e = rw e (door-says e (door text words start (length kept)) (door-means text words start (length kept)))
+
+module _ {mode : ℕ} {text words : List ℕ} {start : ℕ} {kept statements arguments : List ℕ} {r : Body} {kept′ statements′ arguments′ : List ℕ}
+    (call : BodyCall mode text words start kept statements arguments r kept′ statements′ arguments′) where
   abbrev tokens : List Token
   tokens = keptTokens text words
 
   -- every call's numbers say so
-  pub call-says : Says text words start kept statements arguments (values r)
-  call-says = rw (call .answer) (door-says text words start kept statements arguments (door text words start (length kept)) (door-means text words start (length kept)))
+  pub call-says : Says mode text words start kept statements arguments (values r)
+  call-says = rw (call .answer) (entrance-says mode text words start kept statements arguments (isMode mode) refl)
 
   -- the answer and the tables are those of the reading rd of n tokens from the start
   pub record Holding (n : ℕ) (rd : Reading) : Type 0 where
@@ -119,43 +126,45 @@ module _ {text words : List ℕ} {start : ℕ} {kept statements arguments : List
     pub statementsHold : statements′ ≡ filled (length statements) (statementRecords 0 0 rd)
     pub argumentsHold : arguments′ ≡ filled (length arguments) (argumentRecords rd)
 
-  holding : (n : ℕ) (rd : Reading) → readingAt text words start ≡ read rd n → values r ≡ bodyNumbers start (read rd n) → Holding n rd
+  holding : (n : ℕ) (rd : Reading) → readingAt mode text words start ≡ read rd n → values r ≡ bodyNumbers start (read rd n) → Holding n rd
   unfolding heldAfter
   holding n rd e is = record { answer = is; statementsHold = call .statementsHold ∙ rw (e, is); argumentsHold = call .argumentsHold ∙ rw (e, is) }
 
   -- an accepted call was let through at the door and has read a stretch that follows the grammar, and the tables had room for its records
   pub record Accepted : Type 0 where
-    pub through : Through text words start kept
+    pub through : Through mode text words start kept
     pub n : ℕ
     pub rd : Reading
-    pub follows : Follows base tokens start n rd
+    pub follows : Follows (rulesOf mode) tokens start n rd
     pub room : Room statements arguments rd
     pub holds : Holding n rd
 
   pub accepted : numberOf r ≡ 0 → Accepted
   accepted z = go (values r) refl call-says
     where
-      go : (v : List ℕ) → values r ≡ v → Says text words start kept statements arguments v → Accepted
-      go v is (says-30 f) = absurd (omega (arith, number-is is))
-      go v is (says-35 f h) = absurd (omega (arith, number-is is))
-      go v is (says-31 f h k) = absurd (omega (arith, number-is is))
+      go : (v : List ℕ) → values r ≡ v → Says mode text words start kept statements arguments v → Accepted
+      go v is (says-36 k) = absurd (omega (arith, number-is is))
+      go v is (says-30 k f) = absurd (omega (arith, number-is is))
+      go v is (says-35 k f h) = absurd (omega (arith, number-is is))
+      go v is (says-31 k f h i) = absurd (omega (arith, number-is is))
       go v is (says-refused l ours e) = absurd (omega (arith, number-is is, ours .0))
       go v is (says-33 n rd l f h) = absurd (omega (arith, number-is is))
       go v is (says-34 n rd l f h k) = absurd (omega (arith, number-is is))
-      go v is (says-read n rd l f room) = record { through = l; n = n; rd = rd; follows = f; room = room; holds = holding n rd (body-exactly base tokens start n rd .1 f) is }
+      go v is (says-read n rd l f room) = record { through = l; n = n; rd = rd; follows = f; room = room; holds = holding n rd (body-exactly (rulesOf mode) tokens start n rd .1 f) is }
 
   -- refused by the reading: the door let the call through, and the reader gives this number and cursor
   pub record RefusedThere (c q : ℕ) : Type 0 where
-    pub through : Through text words start kept
-    pub reads : readingAt text words start ≡ refused c q
+    pub through : Through mode text words start kept
+    pub reads : readingAt mode text words start ≡ refused c q
 
   pub refused-there : (c q : ℕ) → values r ≡ refusal c q → ReadingNumber c → RefusedThere c q
   refused-there c q is ours = go (values r) refl call-says
     where
-      go : (v : List ℕ) → values r ≡ v → Says text words start kept statements arguments v → RefusedThere c q
-      go v e (says-30 f) = absurd (omega (arith, number-is (sym is ∙ e), ours .1))
-      go v e (says-35 f h) = absurd (omega (arith, number-is (sym is ∙ e), ours .1))
-      go v e (says-31 f h k) = absurd (omega (arith, number-is (sym is ∙ e), ours .1))
+      go : (v : List ℕ) → values r ≡ v → Says mode text words start kept statements arguments v → RefusedThere c q
+      go v e (says-36 k) = absurd (omega (arith, number-is (sym is ∙ e), ours .1))
+      go v e (says-30 k f) = absurd (omega (arith, number-is (sym is ∙ e), ours .1))
+      go v e (says-35 k f h) = absurd (omega (arith, number-is (sym is ∙ e), ours .1))
+      go v e (says-31 k f h i) = absurd (omega (arith, number-is (sym is ∙ e), ours .1))
       go v e (says-refused {c = d} {q = p} l o g) =
           let k : c ≡ d = number-is (sym is ∙ e) in
           let m : q ≡ p = ap (λ (w : List ℕ). getD w 1 0) (sym is ∙ e) in
@@ -166,10 +175,10 @@ module _ {text words : List ℕ} {start : ℕ} {kept statements arguments : List
 
   -- ---- the tables
 
-  tables-of : (n : ℕ) (rd : Reading) → Follows base tokens start n rd → Holding n rd → BodyTable tokens statements′ arguments′ 0 (statementCount rd) 0 (argumentCount rd) start (start + n)
+  tables-of : (n : ℕ) (rd : Reading) → Follows (rulesOf mode) tokens start n rd → Holding n rd → BodyTable tokens statements′ arguments′ 0 (statementCount rd) 0 (argumentCount rd) start (start + n)
   tables-of n rd follows holds =
       let wide = as-wide 0 0 rd in
-      body-tabled base tokens start n rd follows statements′ arguments′ 0 0
+      body-tabled (rulesOf mode) tokens start n rd follows statements′ arguments′ 0 0
       (rw (holds .statementsHold) (stored-filled statementWidth (length statements) (statementRecords 0 0 rd) (wide .0)))
       (rw (holds .argumentsHold) (stored-filled argumentWidth (length arguments) (argumentRecords rd) (wide .1)))
 
@@ -196,44 +205,44 @@ module _ {text words : List ℕ} {start : ℕ} {kept statements arguments : List
 
   -- the last number of an accepted call, for the reading of its tokens: the plain length, and NONE exactly if one of its instructions has no length
   pub call-length : (q n m size : ℕ) → values r ≡ 0 ∷ q ∷ n ∷ m ∷ size ∷ []
-      → (k : ℕ) (rd : Reading) → Follows base tokens start k rd
+      → (k : ℕ) (rd : Reading) → Follows (rulesOf mode) tokens start k rd
       → (size ≡ plainLength rd) × ((size ≡ NONE) ↔ (every hasLength (bodyInstructions rd) ≡ false))
   call-length q n m size is k rd f =
       let a = accepted (number-is is) in
-      let same = only-one base tokens start (a .n) k (a .rd) rd (a .follows) f in
+      let same = only-one (rulesOf mode) tokens start (a .n) k (a .rd) rd (a .follows) f in
       let told : size ≡ plainLength rd = sym (ap (λ (w : List ℕ). getD w 4 0) (sym (a .holds .answer) ∙ is)) ∙ ap plainLength (same .1) in
-      let few : length tokens ≤ mostTokens = omega (arith, a .through .few, kept-rising words .few, view-length text words (keptOf words)) in
-      (told, rw told (none-exactly base tokens start k rd few f))
+      let few : length tokens ≤ mostTokens = omega (arith, a .through .list .few, kept-rising words .few, view-length text words (keptOf words)) in
+      (told, rw told (none-exactly (rulesOf mode) tokens start k rd few f))
 
   -- ---- the cursor
 
   -- refused with a number of the reading: there is a first token that the rules don't allow, and the cursor is it or one past it
-  pub call-cursor : (c q : ℕ) → values r ≡ refusal c q → ReadingNumber c → (w : ℕ) × FirstWrong base tokens start w × (q ≡ w + past c (drop w tokens))
+  pub call-cursor : (c q : ℕ) → values r ≡ refusal c q → ReadingNumber c → (w : ℕ) × FirstWrong (rulesOf mode) tokens start w × (q ≡ w + past c (drop w tokens))
   call-cursor c q is ours =
       let there = refused-there c q is ours in
-      cursor base tokens start c q (omega (arith, there .through .inside, view-length text words (keptOf words))) (there .reads)
+      cursor (rulesOf mode) tokens start c q (omega (arith, there .through .list .inside, view-length text words (keptOf words))) (there .reads)
 
--- another call from the same start, on a well-formed list with a kept list long enough, whose kept tokens are the same from place 0 to the cursor: it is
+-- another call in the same mode from the same start, on a well-formed list with a kept list long enough, whose kept tokens are the same from place 0 to the cursor: it is
 -- refused alike, and its tables are zero
-module _ {text words : List ℕ} {start : ℕ} {kept statements arguments : List ℕ} {r : Body} {kept′ statements′ arguments′ : List ℕ}
+module _ {mode : ℕ} {text words : List ℕ} {start : ℕ} {kept statements arguments : List ℕ} {r : Body} {kept′ statements′ arguments′ : List ℕ}
     {text₂ words₂ kept₂ statements₂ arguments₂ : List ℕ} {r₂ : Body} {kept₂′ statements₂′ arguments₂′ : List ℕ} where
   pub call-same-refusal : (c q : ℕ)
-      → BodyCall text words start kept statements arguments r kept′ statements′ arguments′
+      → BodyCall mode text words start kept statements arguments r kept′ statements′ arguments′
       → values r ≡ refusal c q → ReadingNumber c
       → WellFormed text₂ words₂ → length (keptOf words₂) ≤ length kept₂
       → take (suc q) (keptTokens text words) ≡ take (suc q) (keptTokens text₂ words₂)
-      → BodyCall text₂ words₂ start kept₂ statements₂ arguments₂ r₂ kept₂′ statements₂′ arguments₂′
+      → BodyCall mode text₂ words₂ start kept₂ statements₂ arguments₂ r₂ kept₂′ statements₂′ arguments₂′
       → (values r₂ ≡ refusal c q) × (statements₂′ ≡ filled (length statements₂) []) × (arguments₂′ ≡ filled (length arguments₂) [])
   unfolding afterReading
   call-same-refusal c q call is ours formed room agree other =
       let there = refused-there call c q is ours in
       let wrong = call-cursor call c q is ours in
-      let reads = same-refusal base (keptTokens text words) (keptTokens text₂ words₂) start c q (there .reads) agree in
+      let reads = same-refusal (rulesOf mode) (keptTokens text words) (keptTokens text₂ words₂) start c q (there .reads) agree in
       let all = view-length text words (keptOf words) in
       let all₂ = view-length text₂ words₂ (keptOf words₂) in
       let inside : start < length (keptTokens text₂ words₂) =
-      agree-length start (suc q) (keptTokens text words) (keptTokens text₂ words₂) agree (omega (arith, wrong .1 .before, wrong .2)) (omega (arith, there .through .inside, all)) in
-      let said : values r₂ ≡ refusal c q = other .answer ∙ rw (let-through text₂ words₂ start (length kept₂) formed room (omega (arith, inside, all₂))) (rw reads) in (
+      agree-length start (suc q) (keptTokens text words) (keptTokens text₂ words₂) agree (omega (arith, wrong .1 .before, wrong .2)) (omega (arith, there .through .list .inside, all)) in
+      let said : values r₂ ≡ refusal c q = other .answer ∙ rw (there .through .known, let-through text₂ words₂ start (length kept₂) formed room (omega (arith, inside, all₂))) (rw reads) in (
         said,
         other .statementsHold ∙ rw said (held-refused c _ statements₂ ours),
         other .argumentsHold ∙ rw said (held-refused c _ arguments₂ ours),
@@ -247,22 +256,22 @@ pub record Told (statements arguments : List ℕ) (r : Body) (statements′ argu
   pub statementsHold : statements′ ≡ filled (length statements) (o .statements)
   pub argumentsHold : arguments′ ≡ filled (length arguments) (o .arguments)
 
--- a well-formed list, a start inside it, a kept list long enough, and tables with room for the reading's records: the call answers the reading
-pub with-room : {text words : List ℕ} {start : ℕ} {kept statements arguments : List ℕ} {r : Body} {kept′ statements′ arguments′ : List ℕ}
-    → WellFormed text words → start < length (keptOf words) → length (keptOf words) ≤ length kept
-    → (o : Outcome) → outcome start (readingAt text words start) ≡ o
+-- a mode that there is, a well-formed list, a start inside it, a kept list long enough, and tables with room for the reading's records: the call answers the reading
+pub with-room : {mode : ℕ} {text words : List ℕ} {start : ℕ} {kept statements arguments : List ℕ} {r : Body} {kept′ statements′ arguments′ : List ℕ}
+    → isMode mode ≡ true → WellFormed text words → start < length (keptOf words) → length (keptOf words) ≤ length kept
+    → (o : Outcome) → outcome start (readingAt mode text words start) ≡ o
     → length (o .statements) ≤ length statements / statementWidth
     → length (o .arguments) ≤ length arguments / argumentWidth
-    → BodyCall text words start kept statements arguments r kept′ statements′ arguments′
+    → BodyCall mode text words start kept statements arguments r kept′ statements′ arguments′
     → Told statements arguments r statements′ arguments′ o
 unfolding afterReading heldAfter
-with-room {text} {words} {start} {kept} {statements} {arguments} {r} {kept′} {statements′} {arguments′} formed inside enough o is room room′ call =
-    rw is at (go (readingAt text words start) refl (rw (← is) at room) (rw (← is) at room′))
+with-room {mode} {text} {words} {start} {kept} {statements} {arguments} {r} {kept′} {statements′} {arguments′} known formed inside enough o is room room′ call =
+    rw is at (go (readingAt mode text words start) refl (rw (← is) at room) (rw (← is) at room′))
   where
-    answered : values r ≡ afterReading (readingAt text words start) start (length statements) (length arguments)
-    answered = call .answer ∙ rw (let-through text words start (length kept) formed enough inside)
+    answered : values r ≡ afterReading (readingAt mode text words start) start (length statements) (length arguments)
+    answered = call .answer ∙ rw (known, let-through text words start (length kept) formed enough inside)
 
-    go : (x : Answer Reading) → readingAt text words start ≡ x
+    go : (x : Answer Reading) → readingAt mode text words start ≡ x
         → length (recordsOf (statementRecords 0 0) x) ≤ length statements / statementWidth
         → length (recordsOf argumentRecords x) ≤ length arguments / argumentWidth
         → Told statements arguments r statements′ arguments′ (outcome start x)
@@ -272,32 +281,42 @@ with-room {text} {words} {start} {kept} {statements} {arguments} {r} {kept′} {
         record { answer = told; statementsHold = call .statementsHold ∙ rw (e, told); argumentsHold = call .argumentsHold ∙ rw (e, told) }
     go (refused c q) e hs ha =
         let told : values r ≡ refusal c q = answered ∙ rw e in
-        let ours = body-ours base (keptTokens text words) start c q e in
+        let ours = body-ours (rulesOf mode) (keptTokens text words) start c q e in
         record { answer = told; statementsHold = call .statementsHold ∙ rw told (held-refused c _ statements ours); argumentsHold = call .argumentsHold ∙ rw told (held-refused c _ arguments ours) }
 
--- ---- the rows marked P
+-- ---- the rows marked P, and those of request [1]
 
 -- for every well-formed text and words whose kept tokens are the row's, whatever their texts are where no rule looks at them, with room, a call from start 0 leaves
 -- the row's numbers and tables
-abbrev pub Answered : (ℕ → List ℕ) → Row → Type 0
-Answered texts row =
+abbrev pub Answered : ℕ → (ℕ → List ℕ) → Row → Type 0
+Answered mode texts row =
     (text words kept statements arguments : List ℕ) (r : Body) (kept′ statements′ arguments′ : List ℕ)
     → WellFormed text words
     → keptTokens text words ≡ tokensOf texts 0 (braced (row .input))
     → length (keptOf words) ≤ length kept
     → length (row .outcome .statements) ≤ length statements / statementWidth
     → length (row .outcome .arguments) ≤ length arguments / argumentWidth
-    → BodyCall text words 0 kept statements arguments r kept′ statements′ arguments′
+    → BodyCall mode text words 0 kept statements arguments r kept′ statements′ arguments′
     → Told statements arguments r statements′ arguments′ (row .outcome)
 
-pub call-rows : (texts : ℕ → List ℕ) → All (Answered texts) rows
+-- where the reader gives a list of rows their outcomes, a call does
+rows-answered : (mode : ℕ) (texts : ℕ → List ℕ) (list : List Row) → isMode mode ≡ true → outcomes mode texts list ≡ map (λ row. row .outcome) list → All (Answered mode texts) list
 unfolding outcomes
-call-rows texts = all-map (λ row. answer row ≡ row .outcome) (Answered texts) rows one (all-mapped answer (λ row. row .outcome) rows (rows-hold texts))
+rows-answered mode texts list known hold = all-map (λ row. answer row ≡ row .outcome) (Answered mode texts) list one (all-mapped answer (λ row. row .outcome) list hold)
   where
     answer : Row → Outcome
-    answer row = outcome 0 (bodyAt base (tokensOf texts 0 (braced (row .input))) 0)
+    answer row = outcome 0 (bodyAt (rulesOf mode) (tokensOf texts 0 (braced (row .input))) 0)
 
-    one : (row : Row) → answer row ≡ row .outcome → Answered texts row
+    one : (row : Row) → answer row ≡ row .outcome → Answered mode texts row
     one row e text words kept statements arguments r kept′ statements′ arguments′ formed same enough room room′ call =
         let some = kept-not-empty text words formed in
-        with-room formed some enough (row .outcome) (rw same e) room room′ call
+        with-room known formed some enough (row .outcome) (rw same e) room room′ call
+
+pub call-rows : (texts : ℕ → List ℕ) → All (Answered lenientMode texts) rows
+unfolding isMode
+call-rows texts = rows-answered lenientMode texts rows refl (rows-hold texts)
+
+-- those of request [1]
+pub call-strict-rows : (texts : ℕ → List ℕ) → All (Answered strictMode texts) strictRows
+unfolding isMode
+call-strict-rows texts = rows-answered strictMode texts strictRows refl (strict-rows-hold texts)

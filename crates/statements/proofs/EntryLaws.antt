@@ -1,11 +1,11 @@
 -- The entry: the kept list as the door leaves it, tables that hold records and then zeros, and the answer for what was read. Assumes nothing.
-use Prim.Native.Nat.{ℕ, _+_, _-_, _/_}
+use Prim.Native.Nat.{ℕ, zero, suc, _+_, _-_, _/_, _≤_, _<_}
 use native.Mathlib.Nat.{zero-add, sub-zero}
 use native.Mathlib.Omega.{arith}
 use mathlib.Core.Path.{_≡_, refl, sym, ap, _∙_}
 use mathlib.Core.Bool.{Bool, true, false, cond}
 use mathlib.Core.List.{List, [], _∷_, flatten}
-use borrow.Author.Tests.{ltb-false}
+use borrow.Author.Tests.{ltb-false, ne-eqb}
 use lib.ListN.{length, getD, take, drop, replicate}
 use lib.Dec.{eqb, ltb}
 use Rattle.tokens.specs.Number as number
@@ -19,7 +19,7 @@ use Rattle.tokens.specs.declared.door.Door.the-variants.{Ready}
 use Rattle.tokens.proofs.PlaceLaws.{kept-part}
 use Rattle.tokens.proofs.LentLaws.{cleared-none, Wide, records-then-zeros}
 use Rattle.grammar.specs.Reading.{Reading}
-use Rattle.grammar.specs.Rules.{base}
+use Rattle.grammar.specs.Rules.{Rules, isMode, rulesOf}
 use Rattle.grammar.specs.Result as why
 use Rattle.grammar.specs.Result.{Res, got, bad, beyond, read, answer}
 use Rattle.grammar.specs.Reader.{bodyFrom, bodyAt}
@@ -34,7 +34,7 @@ use Rattle.statements.specs.declared.item.Progress.{Progress}
 use Rattle.statements.specs.declared.item.Items.{Items}
 use Rattle.statements.specs.declared.item.Items.the-variants as items
 use Rattle.statements.specs.declared.entry.Body.{Body}
-use Rattle.statements.specs.declared.entry.Body.the-variants.{Refused, StatementsTooSmall, ArgumentsTooSmall, Read}
+use Rattle.statements.specs.declared.entry.Body.the-variants.{UnknownMode, Refused, StatementsTooSmall, ArgumentsTooSmall, Read}
 use Rattle.statements.specs.Answers.{BodyParsed}
 use Rattle.statements.specs.Call.{values, numberOf, Own, afterReading, BodyCall}
 use Rattle.statements.specs.Length.{lengthFrom}
@@ -95,21 +95,21 @@ module _ (st ar : List ℕ) (rd : Reading) (start n : ℕ) where
           }
 
 -- what the parser read, settled
-pub body-read : (text words kept : List ℕ) (start : ℕ) (st ar : List ℕ) {st₁ ar₁ st₂ ar₂ : List ℕ} {x : Items} {r : Body}
-    → BodyParsed (startProgress start) 0 0 (length kept) (bodyFrom base start (drop start (view text words kept))) st ar x st₁ ar₁
+pub body-read : (m : Rules) (text words kept : List ℕ) (start : ℕ) (st ar : List ℕ) {st₁ ar₁ st₂ ar₂ : List ℕ} {x : Items} {r : Body}
+    → BodyParsed (startProgress start) 0 0 (length kept) (bodyFrom m start (drop start (view text words kept))) st ar x st₁ ar₁
     → length st₁ ≡ length st
     → length ar₁ ≡ length ar
     → Settled x (lengthFrom (view text words kept) start) st₁ ar₁ r st₂ ar₂
-    → BodyRead text words kept start st ar r st₂ ar₂
+    → BodyRead m text words kept start st ar r st₂ ar₂
 unfolding bodyAt afterReading
-body-read text words kept start st ar {st₁} {ar₁} {st₂} {ar₂} {x} {r} v ls la w = go (bodyFrom base start (drop start (view text words kept))) refl
+body-read m text words kept start st ar {st₁} {ar₁} {st₂} {ar₂} {x} {r} v ls la w = go (bodyFrom m start (drop start (view text words kept))) refl
   where
-    go : (y : Res Reading) → bodyFrom base start (drop start (view text words kept)) ≡ y → BodyRead text words kept start st ar r st₂ ar₂
+    go : (y : Res Reading) → bodyFrom m start (drop start (view text words kept)) ≡ y → BodyRead m text words kept start st ar r st₂ ar₂
     go (bad y q) e =
         let v′ = rw e at v in
         let w′ = rw (v′ .is) at w in
         let is : r ≡ Refused (why.number y) (q + beyond y) = w′ .answer in
-        let ours = body-ours base (view text words kept) start (why.number y) (q + beyond y) (ap answer e) in
+        let ours = body-ours m (view text words kept) start (why.number y) (q + beyond y) (ap answer e) in
         record {
           answer = ap values is ∙ rw e;
           own = rw is ours;
@@ -120,7 +120,7 @@ body-read text words kept start st ar {st₁} {ar₁} {st₂} {ar₂} {x} {r} v 
         let v′ = rw e at v in
         let w′ = rw (v′ .is) at w in
         let long : lengthFrom (view text words kept) start ≡ plainLength rd =
-        length-is base (view text words kept) start k rd (body-exactly base (view text words kept) start k rd .0 (ap answer e)) in
+        length-is m (view text words kept) start k rd (body-exactly m (view text words kept) start k rd .0 (ap answer e)) in
         let is : r ≡ settledItems (items.Done (endProgress st ar rd start k)) (plainLength rd) (length st) (length ar) =
         w′ .answer ∙ rw (ls, la, long, zero-add (statementCount rd), zero-add (argumentCount rd)) in
         let told = settled-answers st ar rd start k (v′ .statementsHold) (v′ .argumentsHold) ls la in
@@ -131,19 +131,41 @@ body-read text words kept start st ar {st₁} {ar₁} {st₂} {ar₂} {x} {r} v 
           argumentsHold = w′ .argumentsHold ∙ rw (e, is) (told .argumentsLeft);
         }
 
+-- ---- the mode
+
+-- the two modes, and no other
+pub mode-known : (mode : ℕ) → mode ≤ 1 → isMode mode ≡ true
+unfolding isMode
+mode-known zero h = refl
+mode-known (suc zero) h = refl
+mode-known (suc (suc mode)) h = absurd (omega arith)
+
+pub mode-unknown : (mode : ℕ) → 1 < mode → isMode mode ≡ false
+unfolding isMode
+mode-unknown mode h = rw (ne-eqb mode 0 (λ e. omega arith), ne-eqb mode 1 (λ e. omega arith))
+
+-- ---- the call
+
+-- 36: nothing lent has changed
+pub call-unknown : {mode : ℕ} {text words kept st ar : List ℕ} {start : ℕ} → isMode mode ≡ false → BodyCall mode text words start kept st ar UnknownMode kept st ar
+unfolding heldAfter
+call-unknown e = record { answer = rw e; own = tt; list = rw e; statementsHold = refl; argumentsHold = refl }
+
 -- the whole call, by the door's answer: let through, what was read
-pub call-read : {text words kept st ar kept′ st′ ar′ : List ℕ} {start n : ℕ} {d : Door} {r : Body}
+pub call-read : {mode : ℕ} {text words kept st ar kept′ st′ ar′ : List ℕ} {start n : ℕ} {d : Door} {r : Body}
+    → isMode mode ≡ true
     → Prepared text words start kept d kept′
     → d ≡ Ready n
-    → BodyRead text words (take (n - 0) kept′) start st ar r st′ ar′
-    → BodyCall text words start kept st ar r kept′ st′ ar′
-call-read {text} {words} {kept} {start = start} p e v =
+    → BodyRead (rulesOf mode) text words (take (n - 0) kept′) start st ar r st′ ar′
+    → BodyCall mode text words start kept st ar r kept′ st′ ar′
+call-read {text = text} {words} {kept} {start = start} known p e v =
     let v′ = rw (kept-part text words start kept p e .0) at v in
     let said = ap doors.values (sym e) ∙ p .answer in
-    record { answer = v′ .answer ∙ rw (sym said); own = v′ .own; list = p .list; statementsHold = v′ .statementsHold; argumentsHold = v′ .argumentsHold }
+    record { answer = v′ .answer ∙ rw (known, sym said); own = v′ .own; list = p .list ∙ rw known; statementsHold = v′ .statementsHold; argumentsHold = v′ .argumentsHold }
 
 -- 30, 35 and 31: nothing lent has changed
-pub call-refused : {text words kept st ar kept′ : List ℕ} {start c q : ℕ} {d x : Door} {r : Body}
+pub call-refused : {mode : ℕ} {text words kept st ar kept′ : List ℕ} {start c q : ℕ} {d x : Door} {r : Body}
+    → isMode mode ≡ true
     → Prepared text words start kept x kept′
     → x ≡ d
     → doors.values d ≡ (c, q)
@@ -151,13 +173,13 @@ pub call-refused : {text words kept st ar kept′ : List ℕ} {start c q : ℕ} 
     → ((rs : List (List ℕ)) (lent : List ℕ) → heldAfter c rs lent ≡ lent)
     → values r ≡ refusal c q
     → Own r
-    → BodyCall text words start kept st ar r kept′ st ar
-call-refused {c = c} {q = q} p e f z h is own =
+    → BodyCall mode text words start kept st ar r kept′ st ar
+call-refused {c = c} {q = q} known p e f z h is own =
     let said = ap doors.values (sym e) ∙ p .answer in
     record {
-      answer = is ∙ rw (sym said, f, z);
+      answer = is ∙ rw (known, sym said, f, z);
       own = own;
-      list = p .list;
+      list = p .list ∙ rw known;
       statementsHold = rw is (sym (h _ _));
       argumentsHold = rw is (sym (h _ _));
     }

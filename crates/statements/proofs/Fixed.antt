@@ -12,7 +12,7 @@ use Rattle.grammar.specs.Records.{statementRecords, argumentRecords}
 use Rattle.statements.specs.declared.item.Progress.{Progress}
 use Rattle.statements.specs.declared.item.Items.{Items}
 use Rattle.statements.specs.declared.entry.Body.{Body}
-use Rattle.statements.specs.declared.entry.Body.the-variants.{NotWellFormed, KeptTooShort, StartOutside, Refused, StatementsTooSmall, ArgumentsTooSmall, Read}
+use Rattle.statements.specs.declared.entry.Body.the-variants.{UnknownMode, NotWellFormed, KeptTooShort, StartOutside, Refused, StatementsTooSmall, ArgumentsTooSmall, Read}
 use Rattle.statements.specs.Answers.{Parsed}
 use Rattle.statements.specs.Call.{values, numberOf, Own, readingAt, BodyCall}
 
@@ -26,6 +26,7 @@ one-body-answer r r′ o o′ e = sym (again r o) ∙ ap told e ∙ again r′ o
     told v =
         choose (
         (0, Read (getD v 1 0) (getD v 2 0) (getD v 3 0) (getD v 4 0))
+        ∷ (number.UnknownMode, UnknownMode)
         ∷ (number.NotWellFormed, NotWellFormed (getD v 1 0))
         ∷ (number.KeptTooShort, KeptTooShort (getD v 1 0))
         ∷ (number.StartOutside, StartOutside (getD v 1 0))
@@ -35,12 +36,14 @@ one-body-answer r r′ o o′ e = sym (again r o) ∙ ap told e ∙ again r′ o
         (Refused (getD v 0 0) (getD v 1 0)) (getD v 0 0)
 
     again : (r : Body) → Own r → told (values r) ≡ r
+    again UnknownMode o = refl
     again (NotWellFormed at) o = refl
     again (KeptTooShort count) o = refl
     again (StartOutside at) o = refl
     again (Refused c q) o =
         rw (
           ne-eqb c 0 (λ e. omega (arith, o .0)),
+          ne-eqb c 36 (λ e. omega (arith, o .1)),
           ne-eqb c 30 (λ e. omega (arith, o .1)),
           ne-eqb c 35 (λ e. omega (arith, o .1)),
           ne-eqb c 31 (λ e. omega (arith, o .1)),
@@ -52,16 +55,16 @@ one-body-answer r r′ o o′ e = sym (again r o) ∙ ap told e ∙ again r′ o
     again (Read cursor s n size) o = refl
 
 -- the promise of `read_body`: its answer, and all that is lent
-pub one-call : {text words kept st ar : List ℕ} {start : ℕ} {r r′ : Body} {k k′ s s′ a a′ : List ℕ}
-    → BodyCall text words start kept st ar r k s a
-    → BodyCall text words start kept st ar r′ k′ s′ a′
+pub one-call : {mode : ℕ} {text words kept st ar : List ℕ} {start : ℕ} {r r′ : Body} {k k′ s s′ a a′ : List ℕ}
+    → BodyCall mode text words start kept st ar r k s a
+    → BodyCall mode text words start kept st ar r′ k′ s′ a′
     → (r ≡ r′) × (k ≡ k′) × (s ≡ s′) × (a ≡ a′)
-one-call {text} {words} {st = st} {ar = ar} {start = start} {r = r} {r′ = r′} m n =
+one-call {mode} {text} {words} {st = st} {ar = ar} {start = start} {r = r} {r′ = r′} m n =
     let same = one-body-answer r r′ (m .own) (n .own) (m .answer ∙ sym (n .answer)) in (
       same,
       m .list ∙ sym (n .list),
-      m .statementsHold ∙ ap (λ (x : Body). heldAfter (numberOf x) (recordsOf (statementRecords 0 0) (readingAt text words start)) st) same ∙ sym (n .statementsHold),
-      m .argumentsHold ∙ ap (λ (x : Body). heldAfter (numberOf x) (recordsOf argumentRecords (readingAt text words start)) ar) same ∙ sym (n .argumentsHold),
+      m .statementsHold ∙ ap (λ (x : Body). heldAfter (numberOf x) (recordsOf (statementRecords 0 0) (readingAt mode text words start)) st) same ∙ sym (n .statementsHold),
+      m .argumentsHold ∙ ap (λ (x : Body). heldAfter (numberOf x) (recordsOf argumentRecords (readingAt mode text words start)) ar) same ∙ sym (n .argumentsHold),
     )
 
 module _ {A : Type 0} {answer : Progress → Res A → Items} {records : ℕ → ℕ → A → List (List ℕ)} {arguments : A → List (List ℕ)} {s : Progress} {i a size : ℕ} {st ar : List ℕ} {r r′ : Items} {st₁ st₂ ar₁ ar₂ : List ℕ} where

@@ -3,6 +3,7 @@ pub mod ItemLaws
 pub mod Pieces
 pub mod StatementLaws
 pub mod BodyLaws
+pub mod LabelLaws
 pub mod LengthLaws
 pub mod EntryLaws
 pub mod Fixed

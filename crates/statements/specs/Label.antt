@@ -1,11 +1,13 @@
--- Inner: a label's two signs and its record, as their small functions read and write them.
+-- Inner: a label's two signs, its record and the rule on its name, as their small functions read and write them.
 use Prim.Native.Nat.{ℕ, _+_, _-_}
 use mathlib.Core.Bool.{cond}
 use mathlib.Core.List.{List, [], _∷_}
-use lib.Dec.{eqb}
+use lib.Dec.{eqb, ltb}
 use Rattle.tokens.specs.Kind.{Colon, Label}
-use Rattle.tokens.specs.Number.{UnexpectedType, InvalidTokenInMacroBody, labelType}
+use Rattle.tokens.specs.Number.{UnexpectedType, InvalidTokenInMacroBody, DuplicateLabel, labelType}
+use Rattle.tokens.specs.Token.{Token}
 use Rattle.tokens.specs.Place.{kindAt}
+use Rattle.grammar.specs.Again.{firstAgain}
 use Rattle.statements.specs.declared.item.Progress.{Progress}
 use Rattle.statements.specs.declared.item.Items.{Items}
 use Rattle.statements.specs.declared.item.Items.the-variants.{Done, Refused}
@@ -25,3 +27,12 @@ labelOpened words kept s =
     cond (eqb (kindAt words kept (s .at)) Label)
     (cond (eqb (kindAt words kept (s .at + 1)) Colon) (Done (skipped s 2 1)) (Refused UnexpectedType (s .at + 1)))
     (Refused InvalidTokenInMacroBody (s .at))
+
+-- where the cursor stands behind what was read
+abbrev pub cursorAt : Items → ℕ
+cursorAt (Done t) = t .at
+cursorAt (Refused c q) = q
+
+-- what was read from place p on, or 22 at the first label before its cursor whose name stands again
+abbrev pub namedOnce : List Token → ℕ → Items → Items
+namedOnce all p read = cond (ltb (firstAgain all p (cursorAt read)) (cursorAt read)) (Refused DuplicateLabel (firstAgain all p (cursorAt read))) read

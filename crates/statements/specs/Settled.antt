@@ -9,7 +9,7 @@ use Rattle.tokens.specs.Lent.{clearedBehind}
 use Rattle.tokens.specs.Token.{view}
 use Rattle.tokens.specs.Number.{statementWidth, argumentWidth}
 use Rattle.grammar.specs.Call.{recordsOf, heldAfter}
-use Rattle.grammar.specs.Rules.{base}
+use Rattle.grammar.specs.Rules.{Rules}
 use Rattle.grammar.specs.Reader.{bodyAt}
 use Rattle.grammar.specs.Records.{statementRecords, argumentRecords}
 use Rattle.statements.specs.declared.item.Items.{Items}
@@ -32,9 +32,9 @@ pub record Settled (read : Items) (long : ℕ) (statements arguments : List ℕ)
   pub statementsHold : statements′ ≡ clearedBehind statementWidth (getD (values r) 2 0) statements
   pub argumentsHold : arguments′ ≡ clearedBehind argumentWidth (getD (values r) 3 0) arguments
 
--- the body from a start of a kept list
-pub record BodyRead (text words kept : List ℕ) (start : ℕ) (statements arguments : List ℕ) (r : Body) (statements′ arguments′ : List ℕ) : Type 0 where
-  pub answer : values r ≡ afterReading (bodyAt base (view text words kept) start) start (length statements) (length arguments)
+-- the body from a start of a kept list, by a rule set
+pub record BodyRead (m : Rules) (text words kept : List ℕ) (start : ℕ) (statements arguments : List ℕ) (r : Body) (statements′ arguments′ : List ℕ) : Type 0 where
+  pub answer : values r ≡ afterReading (bodyAt m (view text words kept) start) start (length statements) (length arguments)
   pub own : Own r
-  pub statementsHold : statements′ ≡ heldAfter (numberOf r) (recordsOf (statementRecords 0 0) (bodyAt base (view text words kept) start)) statements
-  pub argumentsHold : arguments′ ≡ heldAfter (numberOf r) (recordsOf argumentRecords (bodyAt base (view text words kept) start)) arguments
+  pub statementsHold : statements′ ≡ heldAfter (numberOf r) (recordsOf (statementRecords 0 0) (bodyAt m (view text words kept) start)) statements
+  pub argumentsHold : arguments′ ≡ heldAfter (numberOf r) (recordsOf argumentRecords (bodyAt m (view text words kept) start)) arguments

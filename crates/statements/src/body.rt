@@ -1,9 +1,11 @@
-// Bodies: the Rust's `parse_label` and `parse_body`. Reading goes on from a progress, and i and a are the numbers of records before the lent tables.
+// Bodies: the Rust's `parse_label` and `parse_body`. Reading goes on from a progress, and i and a are the numbers of records before the lent tables. `strict` asks of
+// labels what request [1] asks.
 use crate::item::Items;
 use crate::item::Progress;
 use crate::item::Statement;
 use crate::item::parse_item;
 use crate::item::put_statement;
+use names::first_again;
 use tokens::kind;
 use tokens::kind_at;
 use tokens::number;
@@ -11,13 +13,14 @@ ghost use mathlib.Core.Path.{_≡_};
 ghost use lib.ListN.{length};
 ghost use Prim.Native.Nat.{_+_, _≤_};
 ghost use Rattle.tokens.specs.Number.{statementWidth, mostTokens};
-ghost use Rattle.tokens.specs.Place.{Numbered, tokensFrom};
-ghost use Rattle.grammar.specs.Rules.{base};
+ghost use Rattle.tokens.specs.Place.{Numbered, FromDoor, tokensFrom};
+ghost use Rattle.tokens.specs.Token.{view};
 ghost use Rattle.grammar.specs.Reader.{items, bodyFrom};
+ghost use Rattle.grammar.specs.Again.{pushing};
 ghost use Rattle.statements.specs.Answers.{Counting, SimpleParsed, BodyParsed, flattened};
 ghost use Rattle.tokens.specs.Lent.{put};
 ghost use Rattle.statements.specs.Item.{Small};
-ghost use Rattle.statements.specs.Label.{skipped, labelWords, labelOpened};
+ghost use Rattle.statements.specs.Label.{skipped, labelWords, labelOpened, cursorAt, namedOnce};
 
 // Items up to the next Label or CloseBrace.
 fn parse_items(
@@ -125,12 +128,14 @@ fn open_label(tokens: &[u32], kept: &[u32], s: Progress) -> Items
     Items::Done(skip(s, 2, 1))
 }
 
-// `{`, plain items, label groups, `}`: the Rust's `parse_body` and `parse_label` in one loop, each turn of which reads items up to the next Label or CloseBrace. So
-// `parse_items` is called at one place, and the compiler makes one function of both: with a function for a label's part, a file of many macros takes 12 in 100 longer.
+// `{`, plain items, label groups, `}`, whatever the labels' names (`named_once`): the Rust's `parse_body` and `parse_label` in one loop, each turn of which reads items up to the next
+// Label or CloseBrace. So `parse_items` is called at one place, and the compiler makes one function of both: with a function for a label's part, a file of many
+// macros takes 12 in 100 longer.
 pub fn parse_body(
     text: &[u8],
     tokens: &[u32],
     kept: &[u32],
+    strict: bool,
     s: Progress,
     statements: &mut [u32],
     arguments: &mut [u32],
@@ -139,7 +144,7 @@ pub fn parse_body(
 ) -> Items
     requires { ⌜ Counting (now tokens) (now kept) s i a ⌝ }
     ensures { λ r. ⌜ BodyParsed s i a (length (now (kept .entry)))
-        (bodyFrom base (s .at) (tokensFrom (now (text .entry)) (now (tokens .entry)) (now (kept .entry)) (s .at)))
+        (bodyFrom (pushing strict) (s .at) (tokensFrom (now (text .entry)) (now (tokens .entry)) (now (kept .entry)) (s .at)))
         (now (statements .entry)) (now (arguments .entry)) r (now (statements .exit)) (now (arguments .exit)) ⌝ }
 {
     let at = s.at;
@@ -147,8 +152,9 @@ pub fn parse_body(
         return Items::Refused(number::UNEXPECTED_TYPE, at);
     }
     let mut t = skip(s, 1, 0);
-    // the label whose items are read, once there is one: from then on a push takes no literal
+    // the label whose items are read, once there is one: from then on a push takes a literal only in strict reading
     let mut label = t;
+    let mut inside = false;
     let mut takes = true;
     let mut wrong = number::INVALID_TOKEN_IN_MACRO_BODY;
     loop {
@@ -168,7 +174,7 @@ pub fn parse_body(
                 return Items::Refused(c, q);
             }
             Items::Done(next) => {
-                if !takes {
+                if inside {
                     put_label(statements, label, i, a, next);
                 }
                 let p = next.at;
@@ -179,14 +185,41 @@ pub fn parse_body(
                     Items::Refused(d, w) => {
                         return Items::Refused(d, w);
                     }
-                    Items::Done(inside) => {
+                    Items::Done(behind) => {
                         label = next;
-                        t = inside;
-                        takes = false;
+                        t = behind;
+                        inside = true;
+                        takes = strict;
                         wrong = number::INVALID_TOKEN_IN_LABEL_DEFINITION;
                     }
                 }
             }
         }
     }
+}
+
+// Where the cursor stands behind what was read.
+fn cursor_of(read: Items) -> usize
+    ensures { λ r. ⌜ r ≡ cursorAt read ⌝ }
+{
+    match read {
+        Items::Done(t) => t.at,
+        Items::Refused(_, q) => q,
+    }
+}
+
+// What was read from place p on, unless a label in it has a name that stands again: then that label is refused. What is read before a label does not hang on names, so
+// they can be looked at behind it all, in one walk over the tokens. Each of the two readers of a body asks for it itself where reading is strict: called at one place
+// the compiler would make it part of that reader, and its room for names with it, in both modes.
+pub fn named_once(text: &[u8], tokens: &[u32], kept: &[u32], p: usize, read: Items) -> Items
+    requires { ⌜ FromDoor (now tokens) (now kept) ⌝ }
+    requires { ⌜ (p ≤ mostTokens) × (cursorAt read ≤ mostTokens) ⌝ }
+    ensures { λ r. ⌜ r ≡ namedOnce (view (now (text .entry)) (now (tokens .entry)) (now (kept .entry))) p read ⌝ }
+{
+    let end = cursor_of(read);
+    let at = first_again(text, tokens, kept, p, end);
+    if at < end {
+        return Items::Refused(number::DUPLICATE_LABEL, at);
+    }
+    read
 }

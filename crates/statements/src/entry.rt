@@ -1,4 +1,5 @@
 // The entry for one body.
+use crate::body::named_once;
 use crate::body::parse_body;
 use crate::item::Items;
 use crate::item::Progress;
@@ -12,17 +13,20 @@ ghost use mathlib.Core.Path.{_≡_};
 ghost use lib.ListN.{length, replicate};
 ghost use Rattle.tokens.specs.Token.{view};
 ghost use Rattle.tokens.specs.Place.{Place};
+ghost use Rattle.grammar.specs.Rules.{asks};
 ghost use Rattle.statements.specs.Length.{lengthFrom};
 ghost use Rattle.statements.specs.Call.{BodyCall};
 ghost use Rattle.statements.specs.Settled.{Settled, BodyRead};
 
 // What a body call answers.
 pub enum Body {
+    // 36: there is no such mode.
+    UnknownMode,
     // 30, 35 and 31, at the door.
     NotWellFormed(usize),
     KeptTooShort(usize),
     StartOutside(usize),
-    // 1 to 13: number and cursor.
+    // 1 to 13 and 22: number and cursor.
     Refused(u32, usize),
     // 33 and 34: the records needed.
     StatementsTooSmall(usize),
@@ -81,24 +85,30 @@ fn reading(
     text: &[u8],
     tokens: &[u32],
     kept: &[u32],
+    strict: bool,
     start: usize,
     statements: &mut [u32],
     arguments: &mut [u32],
 ) -> Body
     requires { ⌜ Place (now tokens) (now kept) start ⌝ }
-    ensures { λ r. ⌜ BodyRead (now (text .entry)) (now (tokens .entry)) (now (kept .entry)) start (now (statements .entry)) (now (arguments .entry)) r (now (statements .exit)) (now (arguments .exit)) ⌝ }
+    ensures { λ r. ⌜ BodyRead (asks strict) (now (text .entry)) (now (tokens .entry)) (now (kept .entry)) start (now (statements .entry)) (now (arguments .entry)) r (now (statements .exit)) (now (arguments .exit)) ⌝ }
 {
     let s = Progress {
         at: start,
         statements: 0,
         arguments: 0,
     };
-    let read = parse_body(text, tokens, kept, s, statements, arguments, 0, 0);
+    let mut read = parse_body(text, tokens, kept, strict, s, statements, arguments, 0, 0);
+    if strict {
+        read = named_once(text, tokens, kept, start, read);
+    }
     settle(text, tokens, kept, start, read, statements, arguments)
 }
 
-// Reads one body from place `start` of the kept tokens. Everything lent is tested first; only then the kept list is written, and the tables.
+// Reads one body from place `start` of the kept tokens, strictly if the mode is 1. The mode and everything lent are tested first; only then the kept list is written, and
+// the tables.
 pub fn read_body(
+    mode: u32,
     text: &[u8],
     tokens: &[u32],
     start: usize,
@@ -106,12 +116,23 @@ pub fn read_body(
     statements: &mut [u32],
     arguments: &mut [u32],
 ) -> Body
-    ensures { λ r. ⌜ BodyCall (now (text .entry)) (now (tokens .entry)) start (now (kept .entry)) (now (statements .entry)) (now (arguments .entry)) r (now (kept .exit)) (now (statements .exit)) (now (arguments .exit)) ⌝ }
+    ensures { λ r. ⌜ BodyCall mode (now (text .entry)) (now (tokens .entry)) start (now (kept .entry)) (now (statements .entry)) (now (arguments .entry)) r (now (kept .exit)) (now (statements .exit)) (now (arguments .exit)) ⌝ }
 {
+    if number::MODE_STRICT < mode {
+        return Body::UnknownMode;
+    }
     match prepare(text, tokens, start, kept) {
         Door::NotWellFormed(at) => Body::NotWellFormed(at),
         Door::KeptTooShort(count) => Body::KeptTooShort(count),
         Door::StartOutside(at) => Body::StartOutside(at),
-        Door::Ready(count) => reading(text, tokens, &kept[0..count], start, statements, arguments),
+        Door::Ready(count) => reading(
+            text,
+            tokens,
+            &kept[0..count],
+            mode == number::MODE_STRICT,
+            start,
+            statements,
+            arguments,
+        ),
     }
 }

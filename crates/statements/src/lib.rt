@@ -4,6 +4,7 @@ mod entry;
 mod item;
 mod length;
 
+pub use body::named_once;
 pub use body::parse_body;
 pub use entry::Body;
 pub use entry::read_body;

@@ -1,4 +1,4 @@
--- Document 01's numbers by name, and 22 of its change requests, but for the kinds of a token (Kind): refusals, the widths of records, what stands in their words,
+-- Document 01's numbers by name, and 22 and 36 of its change requests, but for the kinds of a token (Kind): refusals, the widths of records, what stands in their words,
 -- and limits.
 use Prim.Native.Nat.{ℕ}
 
@@ -69,6 +69,17 @@ ArgumentsTooSmall = 34
 
 abbrev pub KeptTooShort : ℕ
 KeptTooShort = 35
+
+abbrev pub UnknownMode : ℕ
+UnknownMode = 36
+
+-- ---- the modes of a call: as document 01 reads, and strictly
+
+abbrev pub lenientMode : ℕ
+lenientMode = 0
+
+abbrev pub strictMode : ℕ
+strictMode = 1
 
 -- ---- "Records, in 32-bit words"
 

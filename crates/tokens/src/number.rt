@@ -1,4 +1,4 @@
-// The numbers of document 01 by name, but for the kinds of a token: refusals, what stands in the words of a record, widths and limits.
+// The numbers of document 01 and of its change requests by name, but for the kinds of a token: refusals, what stands in the words of a record, widths and limits.
 
 // Refusals.
 pub const UNEXPECTED_TYPE: u32 = 1;
@@ -31,6 +31,8 @@ pub const DUPLICATE_MACRO: u32 = 20;
 
 pub const POUND_AT_TOP_LEVEL: u32 = 21;
 
+pub const DUPLICATE_LABEL: u32 = 22;
+
 pub const NOT_WELL_FORMED: u32 = 30;
 
 pub const START_OUTSIDE: u32 = 31;
@@ -42,6 +44,13 @@ pub const STATEMENTS_TOO_SMALL: u32 = 33;
 pub const ARGUMENTS_TOO_SMALL: u32 = 34;
 
 pub const KEPT_TOO_SHORT: u32 = 35;
+
+pub const UNKNOWN_MODE: u32 = 36;
+
+// The modes of a call.
+pub const MODE_LENIENT: u32 = 0;
+
+pub const MODE_STRICT: u32 = 1;
 
 // The kinds of a definition.
 pub const DEFINITION_IMPORT: u32 = 1;

@@ -10,6 +10,7 @@ const LARGEST: usize = 4_194_304;
 /// A case.
 pub struct Case {
     pub body: bool,
+    pub mode: u32,
     pub start: u32,
     pub kept: usize,
     pub definitions: usize,
@@ -26,7 +27,7 @@ impl Case {
     /// Reads a line.
     pub fn read(line: &[u8]) -> Result<Case, &'static str> {
         let fields: Vec<&[u8]> = line.split(|b| *b == b' ').collect();
-        if fields.len() != 8 {
+        if fields.len() != 9 {
             return Err(NOT_A_CASE);
         }
         let body = match fields[0] {
@@ -34,16 +35,17 @@ impl Case {
             b"B" => true,
             _ => return Err(NOT_A_CASE),
         };
-        let start = number(fields[1])?;
-        let kept = number(fields[2])? as usize;
-        let definitions = number(fields[3])? as usize;
-        let statements = number(fields[4])? as usize;
-        let arguments = number(fields[5])? as usize;
-        let text = bytes(fields[6])?;
-        let words = if fields[7] == b"-" {
+        let mode = number(fields[1])?;
+        let start = number(fields[2])?;
+        let kept = number(fields[3])? as usize;
+        let definitions = number(fields[4])? as usize;
+        let statements = number(fields[5])? as usize;
+        let arguments = number(fields[6])? as usize;
+        let text = bytes(fields[7])?;
+        let words = if fields[8] == b"-" {
             vec![]
         } else {
-            fields[7].split(|b| *b == b',').map(number).collect::<Result<Vec<u32>, _>>()?
+            fields[8].split(|b| *b == b',').map(number).collect::<Result<Vec<u32>, _>>()?
         };
         if (!body && start != 0) || (body && definitions != 0) {
             return Err(NOT_A_CASE);
@@ -54,7 +56,7 @@ impl Case {
         {
             return Err(TOO_LARGE);
         }
-        Ok(Case { body, start, kept, definitions, statements, arguments, text, words })
+        Ok(Case { body, mode, start, kept, definitions, statements, arguments, text, words })
     }
 }
 

@@ -6,6 +6,7 @@
 //! * `PANIC`: the Rust panicked;
 //! * `X_name`: the Rust refused for a reason that has no number in document 01, or read a
 //!   decorator (`X_Decorator`), or can't hold one of the tokens (`X_CannotHold`);
+//! * `X_Strict`: the case is in mode 1, which the Rust doesn't know;
 //! * `X_NotACase`, `X_TooLarge`: the line is no case, or asks for more than the driver lends;
 //! * `X_DriverLost`: what the driver derives doesn't fit the nodes. It never should.
 //!
@@ -13,7 +14,7 @@
 //! and doesn't look at the length of the kept list. `driver --raw` prints the Rust's own result, its
 //! nodes or its error, as Rust shows it; a span's start is the token's place.
 //!
-//! What the nodes don't hold the driver derives: 30, 31, 35, 32 to 34, the kept list, the ranges
+//! What the nodes don't hold the driver derives: 30, 31, 35, 36, 32 to 34, the kept list, the ranges
 //! that are wider than the nodes' spans, imports' places, the arguments of calls, the forms of a
 //! builtin's arguments, record numbers and the plain length. docs/DIFFERENCES.md says so.
 
@@ -23,6 +24,9 @@ mod tokens;
 
 use case::{Case, Lent};
 use std::io::{self, BufRead, Write};
+
+/// Mode 1, strict reading; 0 is the Rust's own, and there are no others.
+const STRICT: u32 = 1;
 
 /// What the options ask for.
 #[derive(Clone, Copy, Default)]
@@ -78,7 +82,10 @@ fn serve(ways: Ways) -> io::Result<()> {
 fn answer(case: &Case, ways: Ways) -> String {
     let mut lent = Lent::new(case);
 
-    // The door: 30, 35, 31, in this order, with nothing lent changed.
+    // The door: 36, 30, 35, 31, in this order, with nothing lent changed.
+    if case.mode > STRICT {
+        return lent.show([36, 0, 0, 0, 0]);
+    }
     if !ways.unformed {
         if let Some(bad) = tokens::first_bad(&case.text, &case.words) {
             return lent.show([30, bad as u32, 0, 0, 0]);
@@ -92,7 +99,10 @@ fn answer(case: &Case, ways: Ways) -> String {
         return lent.show([31, case.start, 0, 0, 0]);
     }
 
-    // Only now may a token be out of reach of the Rust.
+    // Only now may the case be out of reach of the Rust.
+    if case.mode == STRICT {
+        return "X_Strict".to_string();
+    }
     let list = match tokens::build(&case.text, &case.words) {
         Some(list) => list,
         None => return "X_CannotHold".to_string(),

@@ -2,7 +2,7 @@
 
 #![allow(dead_code)]
 
-use simmerotter::{push_token, raw, Kind, TOKEN_WORDS};
+use simmerotter::{push_token, raw, Kind, Mode, Options, Room, TOKEN_WORDS};
 use std::fs;
 use std::path::Path;
 
@@ -14,6 +14,8 @@ pub struct Case {
     pub line: usize,
     pub section: String,
     pub is_body: bool,
+    /// The mode's number; some cases have the number of no mode.
+    pub mode: u32,
     pub start: usize,
     pub text: Vec<u8>,
     pub tokens: Vec<u32>,
@@ -47,33 +49,44 @@ impl Lists {
         [self.kept.len(), self.definitions.len(), self.statements.len(), self.arguments.len()]
     }
 
-    pub fn read_file(&mut self, text: &[u8], tokens: &[u32]) -> [u64; 5] {
-        raw::read_file(text, tokens, &mut self.kept, &mut self.definitions, &mut self.statements, &mut self.arguments)
+    pub fn read_file(&mut self, mode: u32, text: &[u8], tokens: &[u32]) -> [u64; 5] {
+        let Lists { kept, definitions, statements, arguments } = self;
+        raw::read_file(mode, text, tokens, kept, definitions, statements, arguments)
     }
 
-    pub fn read_body(&mut self, text: &[u8], tokens: &[u32], start: usize) -> [u64; 5] {
-        raw::read_body(text, tokens, start, &mut self.kept, &mut self.statements, &mut self.arguments)
+    pub fn read_body(&mut self, mode: u32, text: &[u8], tokens: &[u32], start: usize) -> [u64; 5] {
+        raw::read_body(mode, text, tokens, start, &mut self.kept, &mut self.statements, &mut self.arguments)
     }
 }
 
 impl Case {
-    /// Calls the archive with lists like the case's own.
+    /// The case's mode, if its number is that of one: rooms read in no other.
+    pub fn known_mode(&self) -> Option<Mode> {
+        Mode::ALL.into_iter().find(|mode| mode.number() == self.mode)
+    }
+
+    /// Calls the archive in the case's mode with lists like its own.
     pub fn call(&self) -> ([u64; 5], Lists) {
-        self.call_with(Lists::filled(self.wanted.lengths(), FILL))
+        self.call_with(self.mode, Lists::filled(self.wanted.lengths(), FILL))
     }
 
-    /// Calls the archive with lists that are long enough.
-    pub fn call_with_enough(&self) -> ([u64; 5], Lists) {
-        self.call_with(Lists::enough(&self.tokens))
+    /// Calls the archive, whatever the case's mode is, with lists that are long enough.
+    pub fn call_with_enough(&self, mode: Mode) -> ([u64; 5], Lists) {
+        self.call_with(mode.number(), Lists::enough(&self.tokens))
     }
 
-    fn call_with(&self, mut lists: Lists) -> ([u64; 5], Lists) {
+    fn call_with(&self, mode: u32, mut lists: Lists) -> ([u64; 5], Lists) {
         let answer = match self.is_body {
-            true => lists.read_body(&self.text, &self.tokens, self.start),
-            false => lists.read_file(&self.text, &self.tokens),
+            true => lists.read_body(mode, &self.text, &self.tokens, self.start),
+            false => lists.read_file(mode, &self.text, &self.tokens),
         };
         (answer, lists)
     }
+}
+
+/// An empty room that reads in this mode.
+pub fn room_in(mode: Mode) -> Room {
+    Room::with(Options::default().mode(mode))
 }
 
 /// Every case of the fixed sample: all of its lines but headings and those that are answered by a single word.
@@ -100,18 +113,19 @@ fn sample(name: &str) -> String {
 fn case(line: usize, section: &str, fields: &str, answer: &str) -> Case {
     let fields: Vec<&str> = fields.split(' ').collect();
     let parts: Vec<&str> = answer.split('|').collect();
-    assert_eq!((fields.len(), parts.len()), (8, 5), "fields and parts of line {}", line);
+    assert_eq!((fields.len(), parts.len()), (9, 5), "fields and parts of line {}", line);
     let five: Vec<u64> = parts[0].split(' ').map(|number| u64::from(word(number))).collect();
     let [kept, definitions, statements, arguments] = [1, 2, 3, 4].map(|part| words(parts[part]));
     let wanted = Lists { kept, definitions, statements, arguments };
-    assert_eq!([2, 3, 4, 5].map(|field| size(fields[field])), wanted.lengths(), "lengths of line {}", line);
+    assert_eq!([3, 4, 5, 6].map(|field| size(fields[field])), wanted.lengths(), "lengths of line {}", line);
     Case {
         line,
         section: section.to_string(),
         is_body: fields[0] == "B",
-        start: size(fields[1]),
-        text: bytes(fields[6]),
-        tokens: words(fields[7]),
+        mode: word(fields[1]),
+        start: size(fields[2]),
+        text: bytes(fields[7]),
+        tokens: words(fields[8]),
         answer: five.try_into().expect("five numbers"),
         wanted,
     }

@@ -6,7 +6,7 @@ use native.Mathlib.Numerals.{add-one}
 use lib.ListN.{drop}
 use Rattle.tokens.specs.Token.{view}
 use Rattle.grammar.specs.Result.{plain, choose}
-use Rattle.grammar.specs.Rules.{base}
+use Rattle.grammar.specs.Rules.{asks}
 use Rattle.grammar.specs.FileReader.{byKind, kindTable}
 use Rattle.lists.proofs.At.{kind-is}
 use Rattle.definitions.proofs.DefinitionLaws.{refused-plain, top-at, top-none, defined}
@@ -33,7 +33,7 @@ returns c =
     let args = c .before .before .before .before .before .before .before .before .args in
     let all = view (args .text .now) (args .tokens .now) (args .kept .now) in
     let k = kind-is (args .text .now) (args .p) (c .before .before .kind-at .ensures) refl in
-    rw (top-at all (args .p) 3 (k ∙ c .before .match .keys1)) (c .parse-imports .ensures (args .text .now) (args .statements .now) (args .arguments .now))
+    rw (top-at all (args .p) (asks (args .strict)) 3 (k ∙ c .before .match .keys1)) (c .parse-imports .ensures (args .text .now) (args .statements .now) (args .arguments .now))
 
 same-length : tie.Need-same-length
 same-length c = search needs
@@ -46,7 +46,7 @@ returns-2 c =
     let args = c .before .before .before .before .before .before .before .before .before .before .before .before .before .before .args in
     let all = view (args .text .now) (args .tokens .now) (args .kept .now) in
     let k = kind-is (args .text .now) (args .p) (c .before .before .before .before .before .before .before .before .kind-at .ensures) refl in
-    rw (defined all (args .p) (k ∙ c .before .before .before .before .before .before .before .match .keys2)) (one-more {all = all} (byKind (kindTable base (args .p)) (plain InvalidDefinition) (args .p + 1) (drop (args .p + 1) all)) (add-one _) (c .before .before .before .before .define .ensures))
+    rw (defined all (args .p) (asks (args .strict)) (k ∙ c .before .before .before .before .before .before .before .match .keys2)) (one-more {all = all} (byKind (kindTable (asks (args .strict)) (args .p)) (plain InvalidDefinition) (args .p + 1) (drop (args .p + 1) all)) (add-one _) (c .before .before .before .before .define .ensures))
 
 returns-3 : tie.Need-returns-3
 unfolding choose
@@ -54,7 +54,7 @@ returns-3 c =
     let args = c .before .before .before .before .before .before .before .args in
     let all = view (args .text .now) (args .tokens .now) (args .kept .now) in
     let k = kind-is (args .text .now) (args .p) (c .before .kind-at .ensures) refl in
-    refused-parsed (refused-plain (top-at all (args .p) 5 (k ∙ c .match .keys3))) refl
+    refused-parsed (refused-plain (top-at all (args .p) (asks (args .strict)) 5 (k ∙ c .match .keys3))) refl
 
 returns-4 : tie.Need-returns-4
 returns-4 c =
@@ -62,7 +62,7 @@ returns-4 c =
     let all = view (args .text .now) (args .tokens .now) (args .kept .now) in
     let k = kind-is (args .text .now) (args .p) (c .before .kind-at .ensures) refl in
     let no = c .match .rest in
-    refused-parsed (refused-plain (top-none all (args .p) _ k (no .0 .0 .1, (no .1, (no .0 .1, tt))))) refl
+    refused-parsed (refused-plain (top-none all (args .p) (asks (args .strict)) _ k (no .0 .0 .1, (no .1, (no .0 .1, tt))))) refl
 
 pub top-level-spec : {M : Type 1} → statement M
 top-level-spec =

@@ -1,5 +1,9 @@
 use native.Mathlib.Omega.{arith}
+use mathlib.Core.Path.{_∙_}
+use mathlib.Core.Logic.{⊎-elim, inl, inr}
 use Rattle.tokens.specs.Token.{view}
+use Rattle.grammar.specs.Rules.{asks}
+use Rattle.statements.proofs.LabelLaws.{parts-end, body-named}
 use Rattle.definitions.proofs.MacroLaws.{numbers-are-refused, body-is-refused, tail-read}
 use borrow.Author.Needs.{needs}
 use Rattle.definitions.proofs.macros.macro_tail.Statement.{statement}
@@ -17,16 +21,27 @@ enum-known-takes c = search needs
 parse-body-requires : tie.Need-parse-body-requires
 parse-body-requires c κs =
     let h = rw (c .before .before .before .takes .given .1) at (c .before .before .before .before .before .macro-numbers .ensures (c .before .before .before .before .before .before .before .before .before .before .before .args .text .now) .within) in
-    record { list = c .before .before .before .before .before .before .before .before .before .before .before .pre .0 .list; inside = h .1; statements = omega arith; arguments = omega (arith, c .before .before .before .before .before .before .before .before .before .before .before .pre .1); statementsBefore = c .before .before .before .before .before .before .before .before .before .before .before .pre .0 .statementsBefore; argumentsBefore = c .before .before .before .before .before .before .before .before .before .before .before .pre .0 .argumentsBefore }
+    let g = c .before .before .before .before .before .before .before .before .before .before .before .pre in
+    record { list = g .0 .list; inside = h .1; statements = omega arith; arguments = omega (arith, g .1); statementsBefore = g .0 .statementsBefore; argumentsBefore = g .0 .argumentsBefore }
 
-enum-known-d : tie.Need-enum-known-d
-enum-known-d c = search needs
+named-once-requires : tie.Need-named-once-requires
+named-once-requires c κs =
+    let a = c .before .before .before .before .before .before .before .before .before .before .before .before .before .before .before .before .before .args in
+    let g = c .before .before .before .before .before .before .before .before .before .before .before .before .before .before .before .before .before .pre in
+    let h = rw (c .before .before .before .before .before .before .before .before .before .takes .given .1) at (c .before .before .before .before .before .before .before .before .before .before .before .macro-numbers .ensures (a .text .now) .within) in
+    let v = c .before .before .before .before .before .parse-body in
+    (g .0 .list, (omega (arith, h .1, g .0 .list .few), parts-end (a .strict) (a .text .now) (a .tokens .now) (a .kept .now) (record { list = g .0 .list; inside = h .1; statements = omega arith; arguments = omega (arith, g .1); statementsBefore = g .0 .statementsBefore; argumentsBefore = g .0 .argumentsBefore }) (v .ensures)))
 
-enum-known-t : tie.Need-enum-known-t
-enum-known-t c = search needs
+enum-known-read : tie.Need-enum-known-read
+enum-known-read c = search needs
+
+enum-known-read-2 : tie.Need-enum-known-read-2
+enum-known-read-2 c = search needs
 
 returns : tie.Need-returns
-returns c = numbers-are-refused (view (c .before .before .before .before .before .before .before .before .before .args .text .now) (c .before .before .before .before .before .before .before .before .before .args .tokens .now) (c .before .before .before .before .before .before .before .before .before .args .kept .now)) (rw (c .before .c .given .1) at (c .before .before .before .macro-numbers .ensures (c .before .before .before .before .before .before .before .before .before .args .text .now)))
+returns c =
+    let a = c .before .before .before .before .before .before .before .before .before .args in
+    numbers-are-refused (asks (a .strict)) (view (a .text .now) (a .tokens .now) (a .kept .now)) (rw (c .before .c .given .1) at (c .before .before .before .macro-numbers .ensures (a .text .now)))
 
 same-length : tie.Need-same-length
 same-length c = search needs
@@ -35,7 +50,11 @@ same-length-2 : tie.Need-same-length-2
 same-length-2 c = search needs
 
 returns-2 : tie.Need-returns-2
-returns-2 c = body-is-refused (view (c .before .before .before .before .before .before .before .before .before .before .before .before .before .before .before .before .before .before .before .args .text .now) (c .before .before .before .before .before .before .before .before .before .before .before .before .before .before .before .before .before .before .before .args .tokens .now) (c .before .before .before .before .before .before .before .before .before .before .before .before .before .before .before .before .before .before .before .args .kept .now)) (rw (c .before .before .before .before .before .before .before .before .before .before .before .takes .given .1) at (c .before .before .before .before .before .before .before .before .before .before .before .before .before .macro-numbers .ensures (c .before .before .before .before .before .before .before .before .before .before .before .before .before .before .before .before .before .before .before .args .text .now))) (rw (c .before .d .given .1) at (c .before .before .before .before .before .before .before .parse-body .ensures))
+returns-2 c =
+    let a = c .before .before .before .before .before .before .before .before .before .before .before .before .before .before .before .before .before .before .before .before .args in
+    let all = view (a .text .now) (a .tokens .now) (a .kept .now) in
+    let named = body-named (a .strict) all {r′ = c .before .before .before .if1 .read} (c .before .before .before .before .before .before .before .before .parse-body .ensures) (⊎-elim (λ x. inl (x .0 .taken, x .2 ∙ x .1 .ensures)) (λ x. inr (x .0 .left, x .1)) (c .before .before .before .if1 .came)) in
+    body-is-refused (asks (a .strict)) all (rw (c .before .before .before .before .before .before .before .before .before .before .before .before .takes .given .1) at (c .before .before .before .before .before .before .before .before .before .before .before .before .before .before .macro-numbers .ensures (a .text .now))) (rw (c .before .read .given .1) at named)
 
 same-length-3 : tie.Need-same-length-3
 same-length-3 c = search needs
@@ -44,7 +63,11 @@ same-length-4 : tie.Need-same-length-4
 same-length-4 c = search needs
 
 returns-3 : tie.Need-returns-3
-returns-3 c = tail-read (view (c .before .before .before .before .before .before .before .before .before .before .before .before .before .before .before .before .before .before .before .args .text .now) (c .before .before .before .before .before .before .before .before .before .before .before .before .before .before .before .before .before .before .before .args .tokens .now) (c .before .before .before .before .before .before .before .before .before .before .before .before .before .before .before .before .before .before .before .args .kept .now)) (rw (c .before .before .before .before .before .before .before .before .before .before .before .takes .given .1) at (c .before .before .before .before .before .before .before .before .before .before .before .before .before .macro-numbers .ensures (c .before .before .before .before .before .before .before .before .before .before .before .before .before .before .before .before .before .before .before .args .text .now))) (rw (c .before .t .given .1) at (c .before .before .before .before .before .before .before .parse-body .ensures))
+returns-3 c =
+    let a = c .before .before .before .before .before .before .before .before .before .before .before .before .before .before .before .before .before .before .before .before .args in
+    let all = view (a .text .now) (a .tokens .now) (a .kept .now) in
+    let named = body-named (a .strict) all {r′ = c .before .before .before .if1 .read} (c .before .before .before .before .before .before .before .before .parse-body .ensures) (⊎-elim (λ x. inl (x .0 .taken, x .2 ∙ x .1 .ensures)) (λ x. inr (x .0 .left, x .1)) (c .before .before .before .if1 .came)) in
+    tail-read (asks (a .strict)) all (rw (c .before .before .before .before .before .before .before .before .before .before .before .before .takes .given .1) at (c .before .before .before .before .before .before .before .before .before .before .before .before .before .before .macro-numbers .ensures (a .text .now))) (rw (c .before .read2 .given .1) at named)
 
 pub macro-tail-spec : {M : Type 1} → statement M
 macro-tail-spec =
@@ -54,8 +77,9 @@ macro-tail-spec =
     enum-known-c
     enum-known-takes
     parse-body-requires
-    enum-known-d
-    enum-known-t
+    named-once-requires
+    enum-known-read
+    enum-known-read-2
     returns
     same-length
     same-length-2

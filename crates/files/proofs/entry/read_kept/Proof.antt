@@ -4,7 +4,7 @@ use mathlib.Core.List.{[]}
 use borrow.Author.Needs.{needs}
 use Rattle.tokens.specs.Token.{view}
 use Rattle.grammar.specs.FileReader.{parse, fileAt}
-use Rattle.grammar.specs.Rules.{base}
+use Rattle.grammar.specs.Rules.{asks}
 use Rattle.grammar.proofs.Numbers.{file-ours}
 use Rattle.files.proofs.EntryLaws.{taken-32, taken-33, taken-34, taken-refused, taken-read}
 use Rattle.files.proofs.entry.read_kept.Statement.{statement}
@@ -42,9 +42,9 @@ returns c =
     let z = c .before .before .before .before .before .before .clear-all2 in
     let q = c .before .before .before .before .before .before .before .before .before .before .before .before .p .given in
     taken-32 (a .definitions .now) (a .statements .now) (a .arguments .now)
-    (f .last .1 .1 .1 .0) (f .last .1 .1 .1 .1 .0) (f .last .1 .1 .1 .1 .1 .0) (f .kept .1 .1 .1 .0) (f .kept .1 .1 .1 .1 .0) (f .kept .1 .1 .1 .1 .1 .0)
+    (f .last .1 .1 .1 .1 .0) (f .last .1 .1 .1 .1 .1 .0) (f .last .1 .1 .1 .1 .1 .1 .0) (f .kept .1 .1 .1 .1 .0) (f .kept .1 .1 .1 .1 .1 .0) (f .kept .1 .1 .1 .1 .1 .1 .0)
     (z .last .0) (z .last .1 .0) (z .last .1 .1 .0) (z .ensures)
-    (parse base true [] 0 (view (a .text .now) (a .tokens .now) (a .kept .now))) (q .0 .0) (q .0 .1 .0) (q .0 .1 .1 .0) (q .0 .1 .1 .1 .0) (f .result) (f .ensures) (q .1) (c .before .before .before .before .before .before .before .before .before .before .if1 .taken)
+    (parse (asks (a .strict)) true [] 0 (view (a .text .now) (a .tokens .now) (a .kept .now))) (q .0 .0) (q .0 .1 .0) (q .0 .1 .1 .0) (q .0 .1 .1 .1 .0) (f .result) (f .ensures) (q .1) (c .before .before .before .before .before .before .before .before .before .before .if1 .taken)
 
 clear-all-requires-3 : tie.Need-clear-all-requires-3
 clear-all-requires-3 c κs = search needs
@@ -66,9 +66,9 @@ returns-2 c =
     let z = c .before .before .before .before .before .before .clear-all3 in
     let q = c .before .before .before .before .before .before .before .before .before .before .before .before .before .p .given in
     taken-33 (a .definitions .now) (a .statements .now) (a .arguments .now)
-    (f .last .1 .1 .1 .0) (f .last .1 .1 .1 .1 .0) (f .last .1 .1 .1 .1 .1 .0) (f .kept .1 .1 .1 .0) (f .kept .1 .1 .1 .1 .0) (f .kept .1 .1 .1 .1 .1 .0)
+    (f .last .1 .1 .1 .1 .0) (f .last .1 .1 .1 .1 .1 .0) (f .last .1 .1 .1 .1 .1 .1 .0) (f .kept .1 .1 .1 .1 .0) (f .kept .1 .1 .1 .1 .1 .0) (f .kept .1 .1 .1 .1 .1 .1 .0)
     (z .last .0) (z .last .1 .0) (z .last .1 .1 .0) (z .ensures)
-    (parse base true [] 0 (view (a .text .now) (a .tokens .now) (a .kept .now))) (q .0 .0) (q .0 .1 .0) (q .0 .1 .1 .0) (q .0 .1 .1 .1 .0) (f .result) (f .ensures) (q .1) (c .before .before .before .before .before .before .before .before .before .before .before .if1 .left) (c .before .before .before .before .before .before .before .before .before .before .if2 .taken)
+    (parse (asks (a .strict)) true [] 0 (view (a .text .now) (a .tokens .now) (a .kept .now))) (q .0 .0) (q .0 .1 .0) (q .0 .1 .1 .0) (q .0 .1 .1 .1 .0) (f .result) (f .ensures) (q .1) (c .before .before .before .before .before .before .before .before .before .before .before .if1 .left) (c .before .before .before .before .before .before .before .before .before .before .if2 .taken)
 
 clear-all-requires-4 : tie.Need-clear-all-requires-4
 clear-all-requires-4 c κs = search needs
@@ -90,9 +90,9 @@ returns-3 c =
     let z = c .before .before .before .before .before .before .clear-all4 in
     let q = c .before .before .before .before .before .before .before .before .before .before .before .before .before .before .p .given in
     taken-34 (a .definitions .now) (a .statements .now) (a .arguments .now)
-    (f .last .1 .1 .1 .0) (f .last .1 .1 .1 .1 .0) (f .last .1 .1 .1 .1 .1 .0) (f .kept .1 .1 .1 .0) (f .kept .1 .1 .1 .1 .0) (f .kept .1 .1 .1 .1 .1 .0)
+    (f .last .1 .1 .1 .1 .0) (f .last .1 .1 .1 .1 .1 .0) (f .last .1 .1 .1 .1 .1 .1 .0) (f .kept .1 .1 .1 .1 .0) (f .kept .1 .1 .1 .1 .1 .0) (f .kept .1 .1 .1 .1 .1 .1 .0)
     (z .last .0) (z .last .1 .0) (z .last .1 .1 .0) (z .ensures)
-    (parse base true [] 0 (view (a .text .now) (a .tokens .now) (a .kept .now))) (q .0 .0) (q .0 .1 .0) (q .0 .1 .1 .0) (q .0 .1 .1 .1 .0) (f .result) (f .ensures) (q .1) (c .before .before .before .before .before .before .before .before .before .before .before .before .if1 .left) (c .before .before .before .before .before .before .before .before .before .before .before .if2 .left) (c .before .before .before .before .before .before .before .before .before .before .if3 .taken)
+    (parse (asks (a .strict)) true [] 0 (view (a .text .now) (a .tokens .now) (a .kept .now))) (q .0 .0) (q .0 .1 .0) (q .0 .1 .1 .0) (q .0 .1 .1 .1 .0) (f .result) (f .ensures) (q .1) (c .before .before .before .before .before .before .before .before .before .before .before .before .if1 .left) (c .before .before .before .before .before .before .before .before .before .before .before .if2 .left) (c .before .before .before .before .before .before .before .before .before .before .if3 .taken)
 
 clear-rest-requires : tie.Need-clear-rest-requires
 clear-rest-requires c κs = search needs
@@ -114,10 +114,10 @@ returns-4 c =
     let z = c .before .before .before .before .before .before .clear-all in
     let q = c .before .before .before .before .before .before .before .before .before .before .before .c .given in
     taken-refused (a .definitions .now) (a .statements .now) (a .arguments .now)
-    (f .last .1 .1 .1 .0) (f .last .1 .1 .1 .1 .0) (f .last .1 .1 .1 .1 .1 .0) (f .kept .1 .1 .1 .0) (f .kept .1 .1 .1 .1 .0) (f .kept .1 .1 .1 .1 .1 .0)
+    (f .last .1 .1 .1 .1 .0) (f .last .1 .1 .1 .1 .1 .0) (f .last .1 .1 .1 .1 .1 .1 .0) (f .kept .1 .1 .1 .1 .0) (f .kept .1 .1 .1 .1 .1 .0) (f .kept .1 .1 .1 .1 .1 .1 .0)
     (z .last .0) (z .last .1 .0) (z .last .1 .1 .0) (z .ensures)
-    (parse base true [] 0 (view (a .text .now) (a .tokens .now) (a .kept .now))) (q .0 .0) (q .0 .1 .0) (f .result) (f .ensures) (q .1)
-    (file-ours base true (view (a .text .now) (a .tokens .now) (a .kept .now)) (q .0 .0) (q .0 .1 .0))
+    (parse (asks (a .strict)) true [] 0 (view (a .text .now) (a .tokens .now) (a .kept .now))) (q .0 .0) (q .0 .1 .0) (f .result) (f .ensures) (q .1)
+    (file-ours (asks (a .strict)) true (view (a .text .now) (a .tokens .now) (a .kept .now)) (q .0 .0) (q .0 .1 .0))
 
 same-length-13 : tie.Need-same-length-13
 same-length-13 c = search needs
@@ -136,9 +136,9 @@ returns-5 c =
     let z = c .before .before .before .before .before .before .clear-rest in
     let q = c .before .before .before .before .before .before .before .before .before .before .before .before .before .before .p .given in
     taken-read (a .definitions .now) (a .statements .now) (a .arguments .now)
-    (f .last .1 .1 .1 .0) (f .last .1 .1 .1 .1 .0) (f .last .1 .1 .1 .1 .1 .0) (f .kept .1 .1 .1 .0) (f .kept .1 .1 .1 .1 .0) (f .kept .1 .1 .1 .1 .1 .0)
+    (f .last .1 .1 .1 .1 .0) (f .last .1 .1 .1 .1 .1 .0) (f .last .1 .1 .1 .1 .1 .1 .0) (f .kept .1 .1 .1 .1 .0) (f .kept .1 .1 .1 .1 .1 .0) (f .kept .1 .1 .1 .1 .1 .1 .0)
     (z .last .0) (z .last .1 .1 .0) (z .last .1 .1 .1 .1 .0)
-    (parse base true [] 0 (view (a .text .now) (a .tokens .now) (a .kept .now))) (q .0 .0) (q .0 .1 .0) (q .0 .1 .1 .0) (q .0 .1 .1 .1 .0) (f .result) (f .ensures) (q .1) (c .before .before .before .before .before .before .before .before .before .before .before .before .if1 .left) (c .before .before .before .before .before .before .before .before .before .before .before .if2 .left) (c .before .before .before .before .before .before .before .before .before .before .if3 .left) (z .ensures)
+    (parse (asks (a .strict)) true [] 0 (view (a .text .now) (a .tokens .now) (a .kept .now))) (q .0 .0) (q .0 .1 .0) (q .0 .1 .1 .0) (q .0 .1 .1 .1 .0) (f .result) (f .ensures) (q .1) (c .before .before .before .before .before .before .before .before .before .before .before .before .if1 .left) (c .before .before .before .before .before .before .before .before .before .before .before .if2 .left) (c .before .before .before .before .before .before .before .before .before .before .if3 .left) (z .ensures)
 
 pub read-kept-spec : {M : Type 1} → statement M
 read-kept-spec =

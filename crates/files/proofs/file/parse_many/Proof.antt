@@ -1,7 +1,6 @@
 -- `parse_many`: its arrays are room for as many names as 65,536 tokens can have. Assumes nothing.
 use native.Mathlib.Omega.{arith}
 use borrow.Author.Needs.{needs}
-use lib.ListN.{length-replicate}
 use Rattle.files.proofs.FileLaws.{roomy}
 use Rattle.files.proofs.file.parse_many.Statement.{statement}
 use Rattle.files.proofs.file.parse_many.Tie as tie
@@ -17,8 +16,8 @@ slice-aggregate-parse-3 c = search needs
 
 parse-requires : tie.Need-parse-requires
 parse-requires c κs =
-    let few = c .before .before .before .before .before .before .before .before .before .before .before .before .pre .few in
-    record { list = c .before .before .before .before .before .before .before .before .before .before .before .before .pre; halves = rw length-replicate (omega arith); placed = roomy _ 8192 (omega arith); stored = roomy _ 8192 (omega arith) }
+    let list = c .before .before .before .before .before .before .before .before .before .before .before .before .pre in
+    roomy 8192 8192 list (omega arith) (omega (arith, list .few))
 
 same-length : tie.Need-same-length
 same-length c = search needs

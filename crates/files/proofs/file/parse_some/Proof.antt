@@ -1,7 +1,6 @@
 -- `parse_some`: its arrays are room for as many names as 12,288 tokens can have. Assumes nothing.
 use native.Mathlib.Omega.{arith}
 use borrow.Author.Needs.{needs}
-use lib.ListN.{length-replicate}
 use Rattle.files.proofs.FileLaws.{roomy}
 use Rattle.files.proofs.file.parse_some.Statement.{statement}
 use Rattle.files.proofs.file.parse_some.Tie as tie
@@ -18,8 +17,7 @@ slice-aggregate-parse-3 c = search needs
 parse-requires : tie.Need-parse-requires
 parse-requires c κs =
     let pre = c .before .before .before .before .before .before .before .before .before .before .before .before .pre in
-    let few = pre .1 in
-    record { list = pre .0; halves = rw length-replicate (omega arith); placed = roomy _ 1536 (omega arith); stored = roomy _ 1536 (omega arith) }
+    roomy 2048 1536 (pre .0) (omega arith) (omega (arith, pre .1))
 
 same-length : tie.Need-same-length
 same-length c = search needs

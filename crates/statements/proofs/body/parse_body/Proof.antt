@@ -13,11 +13,11 @@ use Rattle.statements.proofs.body.parse_body.Statement.{statement}
 use Rattle.statements.proofs.body.parse_body.Tie as tie
 
 abbrev Inv-loop : tie.InvT-loop
-Inv-loop text tokens kept statements₀ arguments₀ i a at t₀ label₀ takes₀ wrong₀ statements arguments t label takes wrong =
-    BodyWalk text tokens kept i a t₀ statements₀ arguments₀ takes wrong t label statements arguments
+Inv-loop text tokens kept strict statements₀ arguments₀ i a at t₀ label₀ inside₀ takes₀ wrong₀ statements arguments t label inside takes wrong =
+    BodyWalk strict text tokens kept i a t₀ statements₀ arguments₀ inside takes wrong t label statements arguments
 
 abbrev μ-loop : tie.MeasureT-loop
-μ-loop text tokens kept statements₀ arguments₀ i a at t₀ label₀ takes₀ wrong₀ statements arguments t label takes wrong =
+μ-loop text tokens kept strict statements₀ arguments₀ i a at t₀ label₀ inside₀ takes₀ wrong₀ statements arguments t label inside takes wrong =
     length kept - t .at
 
 kind-at-requires : tie.Need-kind-at-requires Inv-loop μ-loop
@@ -29,7 +29,7 @@ returns c =
     let text = now (a .text) in
     let words = now (a .tokens) in
     let kept = now (a .kept) in
-    no-brace (a .i) (a .a) (length kept) (view text words kept) (a .s) (λ e. c .if1 .taken (kind-here text words kept (a .s .at) (c .before .kind-at .ensures) ∙ e))
+    no-brace (a .strict) (a .i) (a .a) (length kept) (view text words kept) (a .s) (λ e. c .if1 .taken (kind-here text words kept (a .s .at) (c .before .kind-at .ensures) ∙ e))
 
 skip-requires : tie.Need-skip-requires Inv-loop μ-loop
 skip-requires c κs = search needs
@@ -41,7 +41,7 @@ loop-holds c =
     let words = now (a .tokens) in
     let kept = now (a .kept) in
     let there = kind-inside words kept (a .s .at) 29 (sym (c .before .before .kind-at .ensures .is) ∙ c .before .if1 .left) (omega arith) in
-    body-starts text words kept (a .i) (a .a) (c .skip .result) (now (a .statements)) (now (a .arguments)) (rw (c .skip .ensures) (counting-skip 1 0 (c .before .before .before .before .before .before .before .before .pre) (omega arith) (omega arith))) (c .skip .result)
+    body-starts (a .strict) text words kept (a .i) (a .a) (c .skip .result) (now (a .statements)) (now (a .arguments)) (rw (c .skip .ensures) (counting-skip 1 0 (c .before .before .before .before .before .before .before .before .pre) (omega arith) (omega arith))) (c .skip .result)
 
 parse-items-requires : tie.Need-parse-items-requires Inv-loop μ-loop
 parse-items-requires c κs = c .before .before .loop .inv .counting
@@ -63,7 +63,7 @@ returns-2 c =
     let kept = now (a .kept) in
     let w = c .before .before .before .before .before .before .before .before .before .before .loop in
     let brace = sym (kind-here text words kept (a .s .at) (c .before .before .before .before .before .before .before .before .before .before .before .before .before .kind-at .ensures)) ∙ c .before .before .before .before .before .before .before .before .before .before .before .before .if1 .left in
-    part-refused text words kept (a .i) (a .a) (c .before .before .before .before .before .before .before .before .before .before .before .skip .result) (now (a .statements)) (now (a .arguments)) (w .takes) (w .inv) (rw (c .before .c .given .1) at (c .before .before .before .before .before .before .before .parse-items .ensures)) (a .s) (c .before .before .before .before .before .before .before .before .before .before .before .skip .ensures) brace
+    part-refused (a .strict) text words kept (a .i) (a .a) (c .before .before .before .before .before .before .before .before .before .before .before .skip .result) (now (a .statements)) (now (a .arguments)) (w .inside) (w .takes) (w .inv) (rw (c .before .c .given .1) at (c .before .before .before .before .before .before .before .parse-items .ensures)) (a .s) (c .before .before .before .before .before .before .before .before .before .before .before .skip .ensures) brace
 
 enum-known-next : tie.Need-enum-known-next Inv-loop μ-loop
 enum-known-next c = search needs
@@ -76,7 +76,7 @@ put-label-requires c κs =
     let kept = now (a .kept) in
     let w = c .before .before .before .before .before .before .before .before .before .before .before .before .loop in
     let v = rw (c .before .before .before .next .given .1) at (c .before .before .before .before .before .before .before .before .before .parse-items .ensures) in
-    label-room text words kept (a .i) (a .a) (c .before .before .before .before .before .before .before .before .before .before .before .before .before .skip .result) (now (a .statements)) (now (a .arguments)) (w .takes) (c .before .if2 .taken) (w .inv) v
+    label-room (a .strict) text words kept (a .i) (a .a) (c .before .before .before .before .before .before .before .before .before .before .before .before .before .skip .result) (now (a .statements)) (now (a .arguments)) (w .inside) (w .takes) (c .before .if2 .taken) (w .inv) v
 
 kind-at-requires-2 : tie.Need-kind-at-requires-2 Inv-loop μ-loop
 kind-at-requires-2 c κs = search needs
@@ -102,13 +102,13 @@ returns-3 c =
     let kept = now (a .kept) in
     let w = c .before .before .before .before .before .before .before .before .before .before .before .before .before .before .loop in
     let v = rw (c .before .before .before .before .before .next .given .1) at (c .before .before .before .before .before .before .before .before .before .before .before .parse-items .ensures) in
-    let onward : Onward (a .i) (a .a) (length kept) (view text words kept) (c .before .before .before .before .before .before .before .before .before .before .before .before .before .before .before .skip .result) (now (a .statements)) (now (a .arguments)) (c .before .before .before .before .before .next .given .0 .0) (c .before .before .before .if2 .statements) (c .before .before .before .before .before .before .before .before .before .before .before .parse-items .last .1 .1 .1 .1 .1 .1 .1 .0) =
+    let onward : Onward (a .strict) (a .i) (a .a) (length kept) (view text words kept) (c .before .before .before .before .before .before .before .before .before .before .before .before .before .before .before .skip .result) (now (a .statements)) (now (a .arguments)) (c .before .before .before .before .before .next .given .0 .0) (c .before .before .before .if2 .statements) (c .before .before .before .before .before .before .before .before .before .before .before .parse-items .last .1 .1 .1 .1 .1 .1 .1 .0) =
     ⊎-elim
-    (λ x. label-told text words kept (a .i) (a .a) (c .before .before .before .before .before .before .before .before .before .before .before .before .before .before .before .skip .result) (now (a .statements)) (now (a .arguments)) (w .takes) (x .0 .taken) (w .inv) v (x .5 ∙ x .2 .ensures))
-    (λ x. main-read text words kept (a .i) (a .a) (c .before .before .before .before .before .before .before .before .before .before .before .before .before .before .before .skip .result) (now (a .statements)) (now (a .arguments)) (w .takes) (x .0 .left) (w .inv) v (x .1))
+    (λ x. label-told (a .strict) text words kept (a .i) (a .a) (c .before .before .before .before .before .before .before .before .before .before .before .before .before .before .before .skip .result) (now (a .statements)) (now (a .arguments)) (w .inside) (w .takes) (x .0 .taken) (w .inv) v (x .5 ∙ x .2 .ensures))
+    (λ x. main-read (a .strict) text words kept (a .i) (a .a) (c .before .before .before .before .before .before .before .before .before .before .before .before .before .before .before .skip .result) (now (a .statements)) (now (a .arguments)) (w .inside) (w .takes) (x .0 .left) (w .inv) v (x .1))
     (c .before .before .before .if2 .came) in
     let brace = sym (kind-here text words kept (a .s .at) (c .before .before .before .before .before .before .before .before .before .before .before .before .before .before .before .before .before .kind-at .ensures)) ∙ c .before .before .before .before .before .before .before .before .before .before .before .before .before .before .before .before .if1 .left in
-    rw (c .skip2 .ensures) (brace-shut text words kept (a .i) (a .a) (c .before .before .before .before .before .before .before .before .before .before .before .before .before .before .before .skip .result) (now (a .statements)) (now (a .arguments)) onward (c .before .before .kind-at2 .ensures) (c .before .if3 .taken) (a .s) (c .before .before .before .before .before .before .before .before .before .before .before .before .before .before .before .skip .ensures) brace)
+    rw (c .skip2 .ensures) (brace-shut (a .strict) text words kept (a .i) (a .a) (c .before .before .before .before .before .before .before .before .before .before .before .before .before .before .before .skip .result) (now (a .statements)) (now (a .arguments)) onward (c .before .before .kind-at2 .ensures) (c .before .if3 .taken) (a .s) (c .before .before .before .before .before .before .before .before .before .before .before .before .before .before .before .skip .ensures) brace)
 
 open-label-requires : tie.Need-open-label-requires Inv-loop μ-loop
 open-label-requires c κs =
@@ -134,16 +134,16 @@ returns-4 c =
     let kept = now (a .kept) in
     let w = c .before .before .before .before .before .before .before .before .before .before .before .before .before .before .before .before .before .loop in
     let v = rw (c .before .before .before .before .before .before .before .before .next .given .1) at (c .before .before .before .before .before .before .before .before .before .before .before .before .before .before .parse-items .ensures) in
-    let onward : Onward (a .i) (a .a) (length kept) (view text words kept) (c .before .before .before .before .before .before .before .before .before .before .before .before .before .before .before .before .before .before .skip .result) (now (a .statements)) (now (a .arguments)) (c .before .before .before .before .before .before .before .before .next .given .0 .0) (c .before .before .before .before .before .before .if2 .statements) (c .before .before .before .before .before .before .before .before .before .before .before .before .before .before .parse-items .last .1 .1 .1 .1 .1 .1 .1 .0) =
+    let onward : Onward (a .strict) (a .i) (a .a) (length kept) (view text words kept) (c .before .before .before .before .before .before .before .before .before .before .before .before .before .before .before .before .before .before .skip .result) (now (a .statements)) (now (a .arguments)) (c .before .before .before .before .before .before .before .before .next .given .0 .0) (c .before .before .before .before .before .before .if2 .statements) (c .before .before .before .before .before .before .before .before .before .before .before .before .before .before .parse-items .last .1 .1 .1 .1 .1 .1 .1 .0) =
     ⊎-elim
-    (λ x. label-told text words kept (a .i) (a .a) (c .before .before .before .before .before .before .before .before .before .before .before .before .before .before .before .before .before .before .skip .result) (now (a .statements)) (now (a .arguments)) (w .takes) (x .0 .taken) (w .inv) v (x .5 ∙ x .2 .ensures))
-    (λ x. main-read text words kept (a .i) (a .a) (c .before .before .before .before .before .before .before .before .before .before .before .before .before .before .before .before .before .before .skip .result) (now (a .statements)) (now (a .arguments)) (w .takes) (x .0 .left) (w .inv) v (x .1))
+    (λ x. label-told (a .strict) text words kept (a .i) (a .a) (c .before .before .before .before .before .before .before .before .before .before .before .before .before .before .before .before .before .before .skip .result) (now (a .statements)) (now (a .arguments)) (w .inside) (w .takes) (x .0 .taken) (w .inv) v (x .5 ∙ x .2 .ensures))
+    (λ x. main-read (a .strict) text words kept (a .i) (a .a) (c .before .before .before .before .before .before .before .before .before .before .before .before .before .before .before .before .before .before .skip .result) (now (a .statements)) (now (a .arguments)) (w .inside) (w .takes) (x .0 .left) (w .inv) v (x .1))
     (c .before .before .before .before .before .before .if2 .came) in
     let brace = sym (kind-here text words kept (a .s .at) (c .before .before .before .before .before .before .before .before .before .before .before .before .before .before .before .before .before .before .before .before .kind-at .ensures)) ∙ c .before .before .before .before .before .before .before .before .before .before .before .before .before .before .before .before .before .before .before .if1 .left in
-    unopened text words kept (a .i) (a .a) (c .before .before .before .before .before .before .before .before .before .before .before .before .before .before .before .before .before .before .skip .result) (now (a .statements)) (now (a .arguments)) onward (c .before .before .before .before .before .kind-at2 .ensures) (c .before .before .before .before .if3 .left) (sym (c .before .d .given .1) ∙ c .before .before .before .open-label .ensures) (a .s) (c .before .before .before .before .before .before .before .before .before .before .before .before .before .before .before .before .before .before .skip .ensures) brace
+    unopened (a .strict) text words kept (a .i) (a .a) (c .before .before .before .before .before .before .before .before .before .before .before .before .before .before .before .before .before .before .skip .result) (now (a .statements)) (now (a .arguments)) onward (c .before .before .before .before .before .kind-at2 .ensures) (c .before .before .before .before .if3 .left) (sym (c .before .d .given .1) ∙ c .before .before .before .open-label .ensures) (a .s) (c .before .before .before .before .before .before .before .before .before .before .before .before .before .before .before .before .before .before .skip .ensures) brace
 
-enum-known-inside : tie.Need-enum-known-inside Inv-loop μ-loop
-enum-known-inside c = search needs
+enum-known-behind : tie.Need-enum-known-behind Inv-loop μ-loop
+enum-known-behind c = search needs
 
 loop-less : tie.Need-loop-less Inv-loop μ-loop
 loop-less c =
@@ -153,7 +153,7 @@ loop-less c =
     let kept = now (a .kept) in
     let w = c .before .before .before .before .before .before .before .before .before .before .before .before .before .before .before .before .before .loop in
     let v = rw (c .before .before .before .before .before .before .before .before .next .given .1) at (c .before .before .before .before .before .before .before .before .before .before .before .before .before .before .parse-items .ensures) in
-    let o = opened-label text words kept (sym (c .before .inside .given .1) ∙ c .before .before .before .open-label .ensures) in
+    let o = opened-label text words kept (sym (c .before .behind .given .1) ∙ c .before .before .before .open-label .ensures) in
     let far = ap (λ (x : Progress). x .at) (o .here) in
     omega (arith, far, o .further, v .within .0)
 
@@ -165,14 +165,14 @@ loop-again c =
     let kept = now (a .kept) in
     let w = c .before .before .before .before .before .before .before .before .before .before .before .before .before .before .before .before .before .loop in
     let v = rw (c .before .before .before .before .before .before .before .before .next .given .1) at (c .before .before .before .before .before .before .before .before .before .before .before .before .before .before .parse-items .ensures) in
-    let onward : Onward (a .i) (a .a) (length kept) (view text words kept) (c .before .before .before .before .before .before .before .before .before .before .before .before .before .before .before .before .before .before .skip .result) (now (a .statements)) (now (a .arguments)) (c .before .before .before .before .before .before .before .before .next .given .0 .0) (c .before .before .before .before .before .before .if2 .statements) (c .before .before .before .before .before .before .before .before .before .before .before .before .before .before .parse-items .last .1 .1 .1 .1 .1 .1 .1 .0) =
+    let onward : Onward (a .strict) (a .i) (a .a) (length kept) (view text words kept) (c .before .before .before .before .before .before .before .before .before .before .before .before .before .before .before .before .before .before .skip .result) (now (a .statements)) (now (a .arguments)) (c .before .before .before .before .before .before .before .before .next .given .0 .0) (c .before .before .before .before .before .before .if2 .statements) (c .before .before .before .before .before .before .before .before .before .before .before .before .before .before .parse-items .last .1 .1 .1 .1 .1 .1 .1 .0) =
     ⊎-elim
-    (λ x. label-told text words kept (a .i) (a .a) (c .before .before .before .before .before .before .before .before .before .before .before .before .before .before .before .before .before .before .skip .result) (now (a .statements)) (now (a .arguments)) (w .takes) (x .0 .taken) (w .inv) v (x .5 ∙ x .2 .ensures))
-    (λ x. main-read text words kept (a .i) (a .a) (c .before .before .before .before .before .before .before .before .before .before .before .before .before .before .before .before .before .before .skip .result) (now (a .statements)) (now (a .arguments)) (w .takes) (x .0 .left) (w .inv) v (x .1))
+    (λ x. label-told (a .strict) text words kept (a .i) (a .a) (c .before .before .before .before .before .before .before .before .before .before .before .before .before .before .before .before .before .before .skip .result) (now (a .statements)) (now (a .arguments)) (w .inside) (w .takes) (x .0 .taken) (w .inv) v (x .5 ∙ x .2 .ensures))
+    (λ x. main-read (a .strict) text words kept (a .i) (a .a) (c .before .before .before .before .before .before .before .before .before .before .before .before .before .before .before .before .before .before .skip .result) (now (a .statements)) (now (a .arguments)) (w .inside) (w .takes) (x .0 .left) (w .inv) v (x .1))
     (c .before .before .before .before .before .before .if2 .came) in
     let h = counting-next (w .inv .counting) (v .within) in
     let same : length (c .before .before .before .before .before .before .if2 .statements) ≡ length (now (a .statements)) = ⊎-elim (λ x. ap length (x .5) ∙ x .3 .given ∙ c .before .before .before .before .before .before .before .before .before .before .before .before .before .statements .given ∙ c .before .before .before .before .before .before .before .before .before .before .before .before .before .before .before .before .before .loop .inv .sameStatements) (λ x. ap length (x .1) ∙ c .before .before .before .before .before .before .before .before .before .before .before .before .before .statements .given ∙ c .before .before .before .before .before .before .before .before .before .before .before .before .before .before .before .before .before .loop .inv .sameStatements) (c .before .before .before .before .before .before .if2 .came) in
-    body-steps text words kept (a .i) (a .a) (c .before .before .before .before .before .before .before .before .before .before .before .before .before .before .before .before .before .before .skip .result) (now (a .statements)) (now (a .arguments)) h onward (sym (c .before .inside .given .1) ∙ c .before .before .before .open-label .ensures) same (c .before .before .before .before .before .before .before .before .before .before .before .arguments .given ∙ w .inv .sameArguments)
+    body-steps (a .strict) text words kept (a .i) (a .a) (c .before .before .before .before .before .before .before .before .before .before .before .before .before .before .before .before .before .before .skip .result) (now (a .statements)) (now (a .arguments)) h onward (sym (c .before .behind .given .1) ∙ c .before .before .before .open-label .ensures) same (c .before .before .before .before .before .before .before .before .before .before .before .arguments .given ∙ w .inv .sameArguments)
 
 pub parse-body-spec : {M : Type 1} → statement M
 parse-body-spec =
@@ -201,6 +201,6 @@ parse-body-spec =
     same-length-5
     same-length-6
     returns-4
-    enum-known-inside
+    enum-known-behind
     loop-less
     loop-again)

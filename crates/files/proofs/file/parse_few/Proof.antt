@@ -1,0 +1,45 @@
+-- `parse_few`: its arrays are room for as many names as 1,536 tokens can have. Assumes nothing.
+use native.Mathlib.Omega.{arith}
+use borrow.Author.Needs.{needs}
+use Rattle.files.proofs.FileLaws.{roomy}
+use Rattle.files.proofs.file.parse_few.Statement.{statement}
+use Rattle.files.proofs.file.parse_few.Tie as tie
+
+slice-aggregate-parse : tie.Need-slice-aggregate-parse
+slice-aggregate-parse c = search needs
+
+slice-aggregate-parse-2 : tie.Need-slice-aggregate-parse-2
+slice-aggregate-parse-2 c = search needs
+
+slice-aggregate-parse-3 : tie.Need-slice-aggregate-parse-3
+slice-aggregate-parse-3 c = search needs
+
+parse-requires : tie.Need-parse-requires
+parse-requires c κs =
+    let pre = c .before .before .before .before .before .before .before .before .before .before .before .before .pre in
+    roomy 256 192 (pre .0) (omega arith) (omega (arith, pre .1))
+
+same-length : tie.Need-same-length
+same-length c = search needs
+
+same-length-2 : tie.Need-same-length-2
+same-length-2 c = search needs
+
+same-length-3 : tie.Need-same-length-3
+same-length-3 c = search needs
+
+returns : tie.Need-returns
+returns c = search needs
+
+pub parse-few-spec : {M : Type 1} → statement M
+parse-few-spec =
+    tie.close
+    (tie.spec
+    slice-aggregate-parse
+    slice-aggregate-parse-2
+    slice-aggregate-parse-3
+    parse-requires
+    same-length
+    same-length-2
+    same-length-3
+    returns)
