@@ -6,8 +6,8 @@
  * - A list passes as a pointer and its length in elements: bytes of text, 32-bit words elsewhere. A token is four words.
  * - No pointer may be null, at length 0 either: give any aligned address then.
  * - The lent lists (kept, definitions, statements, arguments) and the answer must not overlap anything else that is passed.
- * - A call takes up to about 60 KB of stack in mode 0; in mode 1 up to about 260 KB. Calls share nothing: threads may call at once,
- *   each with lists of its own.
+ * - A call takes up to about 70 KB of stack in mode 0. In mode 1 it takes as much where no body has more than 512 tokens, else
+ *   up to about 400 KB. Calls share nothing: threads may call at once, each with lists of its own.
  *
  * Room that always suffices, for n tokens: n words of kept list, n / 2 definition records, n statement records, n argument
  * records. With less, a call answers 32 to 35 and its cursor says how many records (kept list: words) are needed.

@@ -77,7 +77,7 @@ fn large_files_are_read_at_once() {
     assert_eq!(names(&source).len(), 2_000);
 }
 
-/// A lenient call takes up to about 60 KB, and what the thread does besides comes on top. Half a megabyte has to do for both, or
+/// A lenient call takes up to about 70 KB, and what the thread does besides comes on top. Half a megabyte has to do for both, or
 /// the thread would end by a fault.
 #[test]
 fn half_a_megabyte_of_stack_suffices() {
@@ -95,7 +95,7 @@ fn many_macros_and_labels() -> Source {
     source.end().without_space()
 }
 
-/// A strict call takes up to about 260 KB.
+/// A strict call takes up to about 400 KB.
 #[test]
 fn a_megabyte_of_stack_suffices_in_strict_mode() {
     let source = many_macros_and_labels();

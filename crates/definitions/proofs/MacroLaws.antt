@@ -28,7 +28,7 @@ use Rattle.grammar.specs.FileRecords.{macroNumber, formArguments, formCount, fo
 use Rattle.grammar.specs.Written.{RefusedRead}
 use Rattle.grammar.proofs.AtPlace.{look-at}
 use Rattle.lists.specs.Answers.{SingleRead, ListRead}
-use Rattle.statements.specs.Answers.{BodyParsed}
+use Rattle.statements.specs.Answers.{Counting, BodyParsed}
 use Rattle.lists.specs.declared.single.Single.{Single}
 use Rattle.lists.specs.declared.single.Single.the-variants as singles
 use Rattle.lists.specs.declared.argument.Sort.the-variants as sorts
@@ -39,6 +39,7 @@ use Rattle.definitions.specs.declared.record.DefRead.{DefRead}
 use Rattle.definitions.specs.declared.record.DefRead.the-variants as defs
 use Rattle.definitions.specs.declared.macros.Numbers.the-variants as numbers
 use Rattle.definitions.specs.declared.macros.Tail.the-variants as tails
+use Rattle.definitions.specs.Answers as place
 use Rattle.definitions.specs.Answers.{isNamed, DefParsed}
 use Rattle.definitions.specs.Behind.{formed, behindName}
 use Rattle.definitions.specs.Macros.{MacroKind, macroSort, NumberRead, numbersFrom, NumbersRead, headFrom, tailFrom, macroOf, TailParsed}
@@ -255,6 +256,18 @@ progress-is y e f g = rw (← e, ← f, ← g)
 -- the progress that a body starts with, behind n declared arguments
 abbrev pub start : ℕ → ℕ → Progress
 start e n = record { at = e; statements = 0; arguments = n }
+
+-- and from there one can be read
+pub body-begins : {words kept : List ℕ} {q i a n e : ℕ} → place.Reading words kept q q i a → n ≤ q → q ≤ e → e ≤ length kept → Counting words kept (start e n) i a
+body-begins g few further inside =
+    record {
+      list = g .list;
+      inside = inside;
+      statements = omega arith;
+      arguments = omega arith;
+      statementsBefore = g .statementsBefore;
+      argumentsBefore = g .argumentsBefore;
+    }
 
 module _ (rules : Rules) {n q i a size : ℕ} {st ar st′ ar′ : List ℕ} (all : List Token) where
   tail-refused : {c w : ℕ} {x : Res ((ℕ × ℕ) × Reading)} → RefusedRead x c w → TailParsed n q i a size x st ar (tails.Refused c w) st′ ar′

@@ -11,7 +11,9 @@ use lists::parse_args;
 use lists::parse_single_arg;
 use statements::Items;
 use statements::Progress;
+use statements::is_long;
 use statements::named_once;
+use statements::named_once_long;
 use statements::parse_body;
 use tokens::kind;
 use tokens::kind_at;
@@ -171,7 +173,11 @@ fn macro_tail(
             };
             let mut read = parse_body(text, tokens, kept, strict, s, statements, arguments, i, a);
             if strict {
-                read = named_once(text, tokens, kept, e, read);
+                if is_long(e, read) {
+                    read = named_once_long(text, tokens, kept, e, read);
+                } else {
+                    read = named_once(text, tokens, kept, e, read);
+                }
             }
             match read {
                 Items::Refused(d, x) => Tail::Refused(d, x),

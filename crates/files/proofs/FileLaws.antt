@@ -9,10 +9,10 @@ use mathlib.Core.Bool.{Bool, true, false}
 use mathlib.Core.List.{List, [], _∷_, map, map-append}
 use borrow.Author.Tests.{eq-eqb, ne-eqb}
 use borrow.Rule.Slice.PartMut.{midOf, putMid}
-use lib.ListN.{length, getD, drop, replicate, length-append, length-map, length-replicate, getD-replicate}
+use lib.ListN.{length, drop, length-append, length-map}
 use Rattle.tokens.specs.Kind.{Eof}
 use Rattle.tokens.specs.Token.{Token, tokenAt, view}
-use Rattle.tokens.specs.Place.{FromDoor, KindAt}
+use Rattle.tokens.specs.Place.{KindAt}
 use Rattle.tokens.specs.Name.{oneOf}
 use Rattle.tokens.specs.Number.{UnexpectedType, DuplicateMacro, definitionWidth, statementWidth, argumentWidth}
 use Rattle.tokens.specs.Lent.{putAll}
@@ -30,8 +30,9 @@ use Rattle.definitions.specs.declared.record.Definition as code
 use Rattle.definitions.specs.declared.record.DefRead.{DefRead}
 use Rattle.definitions.specs.declared.record.DefRead.the-variants as defs
 use Rattle.files.specs.declared.file.FileRead.the-variants as files
-use Rattle.names.specs.Names.{namesAt, latest, Noted, Noting, Checked}
-use Rattle.files.specs.Answers.{Readable, FileParsed}
+use Rattle.names.specs.Names.{namesAt, Noted, Fresh, Noting, Checked}
+use Rattle.names.proofs.NamesLaws.{fresh-noted}
+use Rattle.files.specs.Answers.{FileParsed}
 use Rattle.definitions.specs.Answers.{codeDefinition, isNamed, ownStatements, ownArguments, DefAdded, DefWithin}
 use Rattle.definitions.proofs.HeadLaws.{named-is}
 use Rattle.files.proofs.RecordLaws.{form-count}
@@ -264,19 +265,6 @@ module _ (de st ar de′ st′ ar′ : List ℕ) where
   parsed-stopped (got ds k) c q e = absurd (let z : _≡_ {A = ℕ} 0 1 = cc in omega arith)
   parsed-stopped (bad y w) c q e = record { is = cc; definitionsHold = tt; statementsHold = tt; argumentsHold = tt }
 
--- ---- room for names
-
--- local arrays of zeros, b of them buckets and k of them for names, are room for a kept list of so many tokens
-pub roomy : {words kept : List ℕ} (b k : ℕ) → FromDoor words kept → 1 ≤ b → length kept ≤ 8 * k → Readable words kept (replicate b 0) (replicate k 0) (replicate k 0)
-roomy b k list some h =
-    record {
-      list = list;
-      some = rw length-replicate some;
-      fresh = λ x lt. getD-replicate b x 0 0 (rw length-replicate at lt);
-      linked = rw length-replicate h;
-      placed = rw length-replicate h;
-    }
-
 -- ---- the loop of parse
 
 -- what is still to be read from place p comes to the whole reading; what is remembered of names; and bounds
@@ -295,13 +283,12 @@ pub record Loop (rules : Rules) (text words kept de₀ st₀ ar₀ heads₀ next
   pub same-next : length next ≡ length next₀
   pub same-places : length places ≡ length places₀
 
-pub loop-begins : (rules : Rules) (text words kept de st ar heads next places : List ℕ) → 1 ≤ length heads → ((b : ℕ) → b < length heads → getD heads b 0 ≡ 0) → Loop rules text words kept de st ar heads next places de st ar heads next places 0 0 0 0 0
-unfolding namesAt latest parse
-loop-begins rules text words kept de st ar heads next places some fresh =
+pub loop-begins : (rules : Rules) (text words kept de st ar heads next places : List ℕ) → Fresh 8 (length kept) heads next places → Loop rules text words kept de st ar heads next places de st ar heads next places 0 0 0 0 0
+unfolding namesAt parse
+loop-begins rules text words kept de st ar heads next places room =
     record {
       ends = refl;
-      noted =
-          record { placed = omega arith; linked = omega arith; some = some; head = fresh; link = λ j h. absurd (none j h) };
+      noted = fresh-noted (view text words kept) room;
       inside = omega arith;
       definitions = omega arith;
       statements = omega arith;
@@ -314,9 +301,6 @@ loop-begins rules text words kept de st ar heads next places some fresh =
       same-next = refl;
       same-places = refl;
     }
-  where
-    none : (j : ℕ) → j < 0 → ⊥
-    none j h = omega arith
 
 module _ {rules : Rules} {text words kept de₀ st₀ ar₀ heads₀ next₀ places₀ de st ar heads next places : List ℕ} {p d i a m : ℕ}
     (loop : Loop rules text words kept de₀ st₀ ar₀ heads₀ next₀ places₀ de st ar heads next places p d i a m) where

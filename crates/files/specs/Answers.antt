@@ -1,10 +1,11 @@
 -- Inner: how the code's answers and tables hold what the file's reader reads.
-use Prim.Native.Nat.{ℕ, _+_, _*_, _≤_, _<_}
+use Prim.Native.Nat.{ℕ, _+_}
 use mathlib.Core.Path.{_≡_}
 use mathlib.Core.List.{List}
-use lib.ListN.{length, getD}
+use lib.ListN.{length}
 use Rattle.tokens.specs.Number.{definitionWidth, statementWidth, argumentWidth}
 use Rattle.tokens.specs.Place.{FromDoor}
+use Rattle.names.specs.Names.{Fresh}
 use Rattle.grammar.specs.Result.{number, beyond, Res, got, bad}
 use Rattle.grammar.specs.Written.{Written}
 use Rattle.grammar.specs.FileReading.{Definition}
@@ -12,14 +13,10 @@ use Rattle.grammar.specs.FileRecords.{definitionRecords, fileStatements, fileAr
 use Rattle.files.specs.declared.file.FileRead.{FileRead}
 use Rattle.files.specs.declared.file.FileRead.the-variants as files
 
--- what reading a file needs: the kept list as the door promises it, and room for the names of macros, fns and tests, each of which takes at least eight tokens, with
--- none remembered yet
+-- what reading a file needs: the kept list as the door promises it, and room for the names of macros, fns and tests, each of which takes at least eight tokens
 pub record Readable (words kept heads next places : List ℕ) : Type 0 where
   pub list : FromDoor words kept
-  pub some : 1 ≤ length heads
-  pub fresh : (b : ℕ) → b < length heads → getD heads b 0 ≡ 0
-  pub linked : length kept ≤ 8 * length next
-  pub placed : length kept ≤ 8 * length places
+  pub room : Fresh 8 (length kept) heads next places
 
 -- the place of Eof and the three counts
 abbrev pub fileRead : Res (List Definition) → FileRead

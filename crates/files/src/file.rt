@@ -90,7 +90,7 @@ fn parse(
     arguments: &mut [u32],
     heads: &mut [u16],
     next: &mut [u16],
-    places: &mut [u16],
+    places: &mut [u32],
 ) -> FileRead
     requires { ⌜ Readable (now tokens) (now kept) (now heads) (now next) (now places) ⌝ }
     ensures { λ r. ⌜ FileParsed (reader.parse (asks strict) true [] 0 (view (now (text .entry)) (now (tokens .entry)) (now (kept .entry))))
@@ -162,7 +162,7 @@ fn parse_few(
 {
     let mut heads = [0u16; FEW_BUCKETS];
     let mut next = [0u16; FEW_NAMES];
-    let mut places = [0u16; FEW_NAMES];
+    let mut places = [0u32; FEW_NAMES];
     parse(
         text,
         tokens,
@@ -195,7 +195,7 @@ fn parse_some(
 {
     let mut heads = [0u16; SOME_BUCKETS];
     let mut next = [0u16; SOME_NAMES];
-    let mut places = [0u16; SOME_NAMES];
+    let mut places = [0u32; SOME_NAMES];
     parse(
         text,
         tokens,
@@ -227,7 +227,7 @@ fn parse_many(
 {
     let mut heads = [0u16; MANY_BUCKETS];
     let mut next = [0u16; MANY_NAMES];
-    let mut places = [0u16; MANY_NAMES];
+    let mut places = [0u32; MANY_NAMES];
     parse(
         text,
         tokens,

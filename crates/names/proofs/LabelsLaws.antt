@@ -1,7 +1,7 @@
 -- Laws of the walk over a body's labels, a token at a time, and what holds at each turn of it. Assumes nothing.
 use Prim.Native.Nat.{ℕ, suc, _+_, _-_, _*_, _≤_, _<_}
 use mathlib.Core.Path.{_≡_, refl, sym, ap, _∙_}
-use mathlib.Core.Bool.{Bool, true, false, cond}
+use mathlib.Core.Bool.{true, false, cond}
 use mathlib.Core.List.{List, _∷_}
 use mathlib.Core.Logic.{⊎-elim}
 use native.Mathlib.Omega.{arith}
@@ -9,7 +9,7 @@ use native.Mathlib.Nat.{add-zero}
 use native.Mathlib.Numerals.{add-one}
 use borrow.Author.Tests.{eq-eqb, ne-eqb}
 use lib.Dec.{eqb}
-use lib.ListN.{length, drop, replicate, length-replicate, getD-replicate}
+use lib.ListN.{length, drop}
 use lib.Seq.{getD-drop, drop-drop}
 use Rattle.tokens.specs.Kind.{Label}
 use Rattle.tokens.specs.Token.{Token, eofToken, tokenAt, view}
@@ -18,8 +18,8 @@ use Rattle.tokens.specs.Name.{oneOf}
 use Rattle.tokens.proofs.Laws.{lt-or-le, left-step, left-none}
 use Rattle.tokens.proofs.TokenLaws.{view-kind}
 use Rattle.grammar.specs.Again.{again, firstAgain}
-use Rattle.names.specs.Names.{namesAt, latest, Noted, Noting, Checked}
-use Rattle.names.specs.Labels.{Roomy}
+use Rattle.names.specs.Names.{namesAt, Noted, Fresh, Noting}
+use Rattle.names.proofs.NamesLaws.{fresh-noted}
 
 -- ---- a token at a time
 
@@ -87,22 +87,18 @@ pub record Walk (text words kept heads₀ next₀ places₀ heads next places : 
   pub same-places : length places ≡ length places₀
 
 -- at the start no name is remembered
-pub walk-begins : (text words kept heads next places : List ℕ) (from to : ℕ) → Roomy from to heads next places
+pub walk-begins : (text words kept heads next places : List ℕ) (from to : ℕ) → Fresh 2 (to - from) heads next places
     → Walk text words kept heads next places heads next places from to from 0
-unfolding namesAt latest
+unfolding namesAt
 walk-begins text words kept heads next places from to room =
     record {
       ends = refl;
-      noted =
-          record { placed = omega arith; linked = omega arith; some = room .some; head = λ b lt. room .fresh b lt; link = λ j h. absurd (none j h) };
+      noted = fresh-noted (view text words kept) room;
       names = omega arith;
       same-heads = refl;
       same-next = refl;
       same-places = refl;
     }
-  where
-    none : (j : ℕ) → j < 0 → ⊥
-    none j h = omega arith
 
 module _ {text words kept heads₀ next₀ places₀ heads next places : List ℕ} {from to q n : ℕ} (walk : Walk text words kept heads₀ next₀ places₀ heads next places from to q n) where
   -- no token is left
@@ -126,38 +122,26 @@ module _ {text words kept heads₀ next₀ places₀ heads next places : List �
           same-places = walk .same-places;
         }
 
-    module _ (label : k ≡ Label) {b : Bool} {heads′ next′ places′ : List ℕ}
-        (told : Checked (view text words kept) (tokenAt (view text words kept) q .text) places n b heads′ next′ places′) where
+    module _ (label : k ≡ Label) where
       -- a Label whose name stands again
-      pub walk-found : b ≡ true → q ≡ firstAgain (view text words kept) from to
+      pub walk-found : true ≡ oneOf (namesAt (view text words kept) places n) (tokenAt (view text words kept) q .text) → q ≡ firstAgain (view text words kept) from to
       walk-found old =
-          sym (found-again (view text words kept) to (namesAt (view text words kept) places n) q lt (here ∙ label) (sym (told .is) ∙ old)) ∙ walk .ends
+          sym (found-again (view text words kept) to (namesAt (view text words kept) places n) q lt (here ∙ label) (sym old)) ∙ walk .ends
 
       -- a Label of a new name
-      pub walk-new : b ≡ false → length heads′ ≡ length heads → length next′ ≡ length next → length places′ ≡ length places
+      pub walk-new : {heads′ next′ places′ : List ℕ} → false ≡ oneOf (namesAt (view text words kept) places n) (tokenAt (view text words kept) q .text)
+          → Noting false (view text words kept) (tokenAt (view text words kept) q .text) places n heads′ next′ places′ (suc n)
+          → length heads′ ≡ length heads → length next′ ≡ length next → length places′ ≡ length places
           → Walk text words kept heads₀ next₀ places₀ heads′ next′ places′ from to (q + 2) (n + 1)
-      walk-new new x y z =
-          let noting : Noting false (view text words kept) (tokenAt (view text words kept) q .text) places n heads′ next′ places′ (suc n) = rw new at (told .then) in
+      walk-new new noting x y z =
           rw (add-one n)
           record {
             ends =
                 rw (noting .1)
-                (sym (found-new (view text words kept) to (namesAt (view text words kept) places n) q lt (here ∙ label) (sym (told .is) ∙ new)) ∙ walk .ends);
+                (sym (found-new (view text words kept) to (namesAt (view text words kept) places n) q lt (here ∙ label) (sym new)) ∙ walk .ends);
             noted = noting .0;
             names = omega (arith, walk .names);
             same-heads = x ∙ walk .same-heads;
             same-next = y ∙ walk .same-next;
             same-places = z ∙ walk .same-places;
           }
-
--- ---- room
-
--- arrays of k zeros are room for the labels of as many pairs of tokens
-pub roomy : (k from to : ℕ) → 1 ≤ k → to ≤ from + 2 * k → Roomy from to (replicate k 0) (replicate k 0) (replicate k 0)
-roomy k from to some h =
-    record {
-      some = rw length-replicate some;
-      fresh = λ b lt. getD-replicate k b 0 0 (rw length-replicate at lt);
-      linked = rw length-replicate h;
-      placed = rw length-replicate h;
-    }

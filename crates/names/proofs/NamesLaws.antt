@@ -11,15 +11,16 @@ use native.Mathlib.Numerals.{add-one}
 use borrow.Author.Tests.{eqb-true, eqb-false}
 use lib.Dec.{eqb}
 use lib.Bits.{and-le-r}
-use lib.ListN.{length, getD, drop, set, length-set, length-drop, drop-of-length-le}
+use lib.ListN.{length, getD, drop, set, replicate, length-set, length-drop, length-replicate, getD-replicate, drop-of-length-le}
 use lib.Seq.{drop-cons, getD-set-same, getD-set-other}
+use Rattle.tokens.specs.Number.{mostTokens}
 use Rattle.tokens.specs.Token.{Token, tokenAt, view}
 use Rattle.tokens.specs.Place.{textAt}
 use Rattle.tokens.specs.Byte.{same}
 use Rattle.tokens.specs.Name.{oneOf}
 use Rattle.tokens.proofs.NameLaws.{same-equal}
 use Rattle.tokens.proofs.TokenLaws.{view-text}
-use Rattle.names.specs.Names.{mixed, fourAt, restOf, hashFrom, hashOf, bucketOf, nameAt, namesAt, latest, Noted, Noting}
+use Rattle.names.specs.Names.{mixed, fourAt, restOf, hashFrom, hashOf, bucketIn, bucketOf, tagOf, noteOf, placeOf, nameAt, namesAt, latest, Noted, Fresh, Noting}
 
 -- ---- the hash
 
@@ -97,9 +98,9 @@ module _ (all : List Token) (places name : List ℕ) where
   walk-end = refl
 
 -- what the code compares is the name at a place
-pub same-here : (text words kept : List ℕ) (p : ℕ) (name part : List ℕ) {r t : Bool} → part ≡ textAt text words kept p → r ≡ same part name → r ≡ t
-    → same (tokenAt (view text words kept) p .text) name ≡ t
-same-here text words kept p name part e s is = ap (λ (l : List ℕ). same l name) (view-text text words kept p ∙ sym e) ∙ sym s ∙ is
+pub same-here : (text words kept : List ℕ) (p : ℕ) (name part : List ℕ) {r : Bool} → part ≡ textAt text words kept p → r ≡ same part name
+    → r ≡ same (tokenAt (view text words kept) p .text) name
+same-here text words kept p name part e s = s ∙ ap (λ (l : List ℕ). same l name) (e ∙ sym (view-text text words kept p))
 
 -- what the code asks of a text is asked of the name at a place
 pub asked-here : (text words kept places : List ℕ) (n p : ℕ) (name : List ℕ) {r t : Bool} → name ≡ textAt text words kept p
@@ -110,16 +111,16 @@ asked-here text words kept places n p name e s is = sym is ∙ s ∙ ap (oneOf (
 -- ---- buckets
 
 -- the bucket lies inside
-pub bucket-inside : (size : ℕ) (name : List ℕ) → 1 ≤ size → bucketOf size name < size
-unfolding bucketOf
-bucket-inside size name some = let below = and-le-r (hashOf name) (size - 1) in omega arith
+pub bucket-inside : (size h : ℕ) → 1 ≤ size → bucketIn size h < size
+unfolding bucketIn
+bucket-inside size h some = let below = and-le-r h (size - 1) in omega arith
 
--- names of different buckets are different
-other-bucket : (size : ℕ) (a b : List ℕ) → (bucketOf size a ≡ bucketOf size b → ⊥) → same a b ≡ false
-other-bucket size a b h = go (same a b) refl
+-- names that differ in what is worked out from them are different
+pub other-name : (f : List ℕ → ℕ) (a b : List ℕ) → (f a ≡ f b → ⊥) → same a b ≡ false
+other-name f a b h = go (same a b) refl
   where
     go : (t : Bool) → same a b ≡ t → t ≡ false
-    go true e = absurd (h (ap (bucketOf size) (same-equal a b .0 e)))
+    go true e = absurd (h (ap f (same-equal a b .0 e)))
     go false e = refl
 
 module _ (size : ℕ) (all : List Token) (places : List ℕ) where
@@ -157,7 +158,7 @@ module _ (size : ℕ) (all : List Token) (places : List ℕ) where
           → oneOf (namesAt all places (latest size all places (bucketOf size name) n)) name ≡ oneOf (namesAt all places n) name
           → oneOf (namesAt all places (cond t (suc n) (latest size all places (bucketOf size name) n))) name ≡ oneOf (namesAt all places (suc n)) name
       go true x ih = refl
-      go false x ih = ih ∙ sym (walk-other all places name (suc n) n refl (other-bucket size (nameAt all places n) name (eqb-false _ _ x)))
+      go false x ih = ih ∙ sym (walk-other all places name (suc n) n refl (other-name (bucketOf size) (nameAt all places n) name (eqb-false _ _ x)))
 
 -- ---- the walk of a bucket
 
@@ -207,11 +208,39 @@ module _ {all : List Token} {heads next places name : List ℕ} {n j : ℕ} (not
       seek-from (length heads) all places name n i (getD next i 0) (omega (arith, seek .inside)) (sym (walk-other all places name j i is other) ∙ seek .asked) before
 
 -- what the code reads of a bucket is its last name
-pub bucket-last : {all : List Token} {heads next places : List ℕ} {n : ℕ} (name : List ℕ) {b : ℕ} → Noted all heads next places n → b ≡ bucketOf (length heads) name
+pub bucket-last : {all : List Token} {heads next places : List ℕ} {n : ℕ} (name : List ℕ) {h b : ℕ} → Noted all heads next places n → h ≡ hashOf name → b ≡ bucketIn (length heads) h
     → getD heads b 0 ≡ latest (length heads) all places (bucketOf (length heads) name) n
-bucket-last {heads = heads} name noted is = rw is (noted .head (bucketOf (length heads) name) (bucket-inside (length heads) name (noted .some)))
+bucket-last {heads = heads} name noted hashed is = rw (is, hashed) (noted .head (bucketOf (length heads) name) (bucket-inside (length heads) (hashOf name) (noted .some)))
+
+-- ---- room
+
+-- b buckets of zeros, and k places and links that hold anything, are room for so many tokens
+pub fresh-room : (each tokens b k x y : ℕ) → 1 ≤ b → tokens ≤ each * k → Fresh each tokens (replicate b 0) (replicate k x) (replicate k y)
+fresh-room each tokens b k x y some h =
+    record {
+      some = rw length-replicate some;
+      fresh = λ j lt. getD-replicate b j 0 0 (rw length-replicate at lt);
+      linked = rw length-replicate h;
+      placed = rw length-replicate h;
+    }
+
+-- in it no name is remembered
+pub fresh-noted : {each tokens : ℕ} {heads next places : List ℕ} (all : List Token) → Fresh each tokens heads next places → Noted all heads next places 0
+unfolding latest
+fresh-noted all room =
+    record { placed = omega arith; linked = omega arith; some = room .some; head = room .fresh; link = λ j h. absurd (none j h); tag = λ j h. absurd (none j h) }
+  where
+    none : (j : ℕ) → j < 0 → ⊥
+    none j h = omega arith
 
 -- ---- one name more
+
+-- a note tells the place and the tag
+note-place : (h p : ℕ) → p < mostTokens → placeOf (noteOf h p) ≡ p
+note-place h p few = omega arith
+
+note-tag : (h p : ℕ) → p < mostTokens → tagOf (noteOf h p) ≡ tagOf h
+note-tag h p few = omega arith
 
 module _ (all : List Token) (heads next places : List ℕ) (n p : ℕ) where
   -- the bucket of the new name
@@ -224,12 +253,15 @@ module _ (all : List Token) (heads next places : List ℕ) (n p : ℕ) where
   abbrev next′ : List ℕ
   next′ = set next n (getD heads here 0)
 
+  abbrev note : ℕ
+  note = noteOf (hashOf (tokenAt all p .text)) p
+
   abbrev places′ : List ℕ
-  places′ = set places n p
+  places′ = set places n note
 
   -- what was remembered before stays: a name, the names, the last of a bucket
   earlier : (j : ℕ) → j < n → nameAt all places′ j ≡ nameAt all places j
-  earlier j lt = ap (λ (q : ℕ). tokenAt all q .text) (getD-set-other places n j p 0 (apart j n lt))
+  earlier j lt = ap (λ (q : ℕ). tokenAt all (placeOf q) .text) (getD-set-other places n j note 0 (apart j n lt))
     where
       apart : (j n : ℕ) → j < n → j ≡ n → ⊥
       apart j n lt e = omega arith
@@ -244,14 +276,16 @@ module _ (all : List Token) (heads next places : List ℕ) (n p : ℕ) where
   earlier-latest size b zero le = refl
   earlier-latest size b (suc k) le = rw (earlier k (omega arith), earlier-latest size b k (omega arith))
 
-  module _ (noted : Noted all heads next places n) (room : n < length next) (room′ : n < length places) where
+  module _ (noted : Noted all heads next places n) (room : n < length next) (room′ : n < length places) (few : p < mostTokens) where
     -- what is remembered now is the name at p
     newest : nameAt all places′ n ≡ tokenAt all p .text
-    newest = ap (λ (q : ℕ). tokenAt all q .text) (getD-set-same places n p 0 room′)
+    newest =
+        ap (λ (q : ℕ). tokenAt all (placeOf q) .text) (getD-set-same places n note 0 room′)
+        ∙ ap (λ (q : ℕ). tokenAt all q .text) (note-place (hashOf (tokenAt all p .text)) p few)
 
     -- its bucket lies inside
     inside : here < length heads
-    inside = bucket-inside (length heads) (tokenAt all p .text) (noted .some)
+    inside = bucket-inside (length heads) (hashOf (tokenAt all p .text)) (noted .some)
 
     -- the new name is the last of its bucket, and other buckets are as they were
     head′ : (b : ℕ) → b < length heads → getD heads′ b 0 ≡ latest (length heads) all places′ b (suc n)
@@ -283,6 +317,20 @@ module _ (all : List Token) (heads next places : List ℕ) (n p : ℕ) where
         down : (j n : ℕ) → j < suc n → j ≤ n
         down j n lt = omega arith
 
+    -- its tag stands beside it
+    tag′ : (j : ℕ) → j < suc n → tagOf (getD places′ j 0) ≡ tagOf (hashOf (nameAt all places′ j))
+    tag′ j lt =
+        ⊎-elim
+        (λ (e : j ≡ n). rw (e, newest) (ap tagOf (getD-set-same places n note 0 room′) ∙ note-tag (hashOf (tokenAt all p .text)) p few))
+        (λ (l : j < n). rw (earlier j l) (ap tagOf (getD-set-other places n j note 0 (apart j n l)) ∙ noted .tag j l))
+        (eq-or-lt-of-le (down j n lt))
+      where
+        apart : (j n : ℕ) → j < n → j ≡ n → ⊥
+        apart j n lt e = omega arith
+
+        down : (j n : ℕ) → j < suc n → j ≤ n
+        down j n lt = omega arith
+
     -- one name more is remembered
     noted-more : Noting false all (tokenAt all p .text) places n heads′ next′ places′ (suc n)
     unfolding namesAt
@@ -293,16 +341,17 @@ module _ (all : List Token) (heads next places : List ℕ) (n p : ℕ) where
         some = rw length-set (noted .some);
         head = rw (length-set heads here (suc n)) head′;
         link = rw (length-set heads here (suc n)) link′;
+        tag = tag′;
       },
       rw (newest, earlier-names n (omega arith)),
     )
 
 -- the same of what the code stores
-pub remembered : (text words kept heads next places : List ℕ) (n p b : ℕ) (name x y z : List ℕ)
-    → Noted (view text words kept) heads next places n → n < length next → n < length places
-    → name ≡ textAt text words kept p → b ≡ bucketOf (length heads) name
-    → (x ≡ set heads b (n + 1)) × (y ≡ set next n (getD heads b 0)) × (z ≡ set places n p)
+pub remembered : (text words kept heads next places : List ℕ) (n p h b : ℕ) (name x y z : List ℕ)
+    → Noted (view text words kept) heads next places n → n < length next → n < length places → p < mostTokens
+    → name ≡ textAt text words kept p → h ≡ hashOf name → b ≡ bucketIn (length heads) h
+    → (x ≡ set heads b (n + 1)) × (y ≡ set next n (getD heads b 0)) × (z ≡ set places n (noteOf h p))
     → Noting false (view text words kept) (tokenAt (view text words kept) p .text) places n x y z (suc n)
-remembered text words kept heads next places n p b name x y z noted room room′ e is stored =
-    let own : b ≡ bucketOf (length heads) (tokenAt (view text words kept) p .text) = is ∙ ap (bucketOf (length heads)) (e ∙ sym (view-text text words kept p)) in
-    rw (stored .0, stored .1, stored .2, own, add-one n) (noted-more (view text words kept) heads next places n p noted room room′)
+remembered text words kept heads next places n p h b name x y z noted room room′ few e hashed is stored =
+    let own : h ≡ hashOf (tokenAt (view text words kept) p .text) = hashed ∙ ap hashOf (e ∙ sym (view-text text words kept p)) in
+    rw (stored .0, stored .1, stored .2, is, own, add-one n) (noted-more (view text words kept) heads next places n p noted room room′ few)

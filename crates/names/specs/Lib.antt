@@ -1,3 +1,3 @@
--- What the test for repeated names promises, what it remembers, and what the walk over labels needs.
+-- What the test for repeated names promises, what it remembers and its room; and which bodies are short.
 pub mod Names
 pub mod Labels

@@ -41,15 +41,31 @@ hashFrom h (a ∷ b ∷ c ∷ d ∷ bs) = hashFrom (mixed (h + fourOf a b c d)) 
 abbrev pub hashOf : List ℕ → ℕ
 hashOf name = hashFrom 0 name
 
--- the bucket of a name among so many
-unfoldable pub bucketOf : ℕ → List ℕ → ℕ
-bucketOf size name = bitAnd (hashOf name) (size - 1)
+-- the bucket of a hash among so many: of its low bits
+unfoldable pub bucketIn : ℕ → ℕ → ℕ
+bucketIn size h = bitAnd h (size - 1)
 
--- the name at remembered place number j
+-- that of a name
+abbrev pub bucketOf : ℕ → List ℕ → ℕ
+bucketOf size name = bucketIn size (hashOf name)
+
+-- the tag of a hash: its high bits
+abbrev pub tagOf : ℕ → ℕ
+tagOf h = h / mostTokens
+
+-- what is stored of a name with this hash whose token is at place p: the tag above the place
+abbrev pub noteOf : ℕ → ℕ → ℕ
+noteOf h p = tagOf h * mostTokens + p
+
+-- the place that a note tells
+abbrev pub placeOf : ℕ → ℕ
+placeOf note = note % mostTokens
+
+-- remembered name number j
 abbrev pub nameAt : List Token → List ℕ → ℕ → List ℕ
-nameAt all places j = tokenAt all (getD places j 0) .text
+nameAt all places j = tokenAt all (placeOf (getD places j 0)) .text
 
--- the names at the first n remembered places, the last one first
+-- the first n remembered names, the last one first
 unfoldable pub namesAt : List Token → List ℕ → ℕ → List (List ℕ)
 namesAt all places zero = []
 namesAt all places (suc n) = nameAt all places n ∷ namesAt all places n
@@ -59,13 +75,21 @@ unfoldable pub latest : ℕ → List Token → List ℕ → ℕ → ℕ → ℕ
 latest size all places b zero = 0
 latest size all places b (suc n) = cond (eqb (bucketOf size (nameAt all places n)) b) (suc n) (latest size all places b n)
 
--- what stands beside n remembered places: for each bucket the last name in it, for each name the last one before it in its bucket
+-- what is stored of n remembered names: for each bucket the last name in it, for each name the last one before it in its bucket, and its tag
 pub record Noted (all : List Token) (heads next places : List ℕ) (n : ℕ) : Type 0 where
   pub placed : n ≤ length places
   pub linked : n ≤ length next
   pub some : 1 ≤ length heads
   pub head : (b : ℕ) → b < length heads → getD heads b 0 ≡ latest (length heads) all places b n
   pub link : (j : ℕ) → j < n → getD next j 0 ≡ latest (length heads) all places (bucketOf (length heads) (nameAt all places j)) j
+  pub tag : (j : ℕ) → j < n → tagOf (getD places j 0) ≡ tagOf (hashOf (nameAt all places j))
+
+-- room for the names of so many tokens, at least `each` of them to a name, and none remembered yet
+pub record Fresh (each tokens : ℕ) (heads next places : List ℕ) : Type 0 where
+  pub some : 1 ≤ length heads
+  pub fresh : (b : ℕ) → b < length heads → getD heads b 0 ≡ 0
+  pub linked : tokens ≤ each * length next
+  pub placed : tokens ≤ each * length places
 
 -- one name more is remembered, unless an earlier one is the same
 abbrev pub Noting : Bool → List Token → List ℕ → List ℕ → ℕ → List ℕ → List ℕ → List ℕ → ℕ → Type 0

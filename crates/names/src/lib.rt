@@ -3,4 +3,6 @@ mod labels;
 mod names;
 
 pub use labels::first_again;
+pub use labels::first_again_long;
+pub use labels::is_long;
 pub use names::check_duplicate;

@@ -32,7 +32,7 @@ use Rattle.statements.specs.declared.item.Items.{Items}
 use Rattle.statements.specs.declared.item.Items.the-variants.{Done, Refused}
 use Rattle.statements.specs.Answers.{Counting, ProgressWithin, Parsed, progressed, simpleAnswer, bodyAnswer, simpleArguments, SimpleParsed, BodyParsed, flattened}
 use Rattle.statements.specs.Item.{Small}
-use Rattle.statements.specs.Label.{skipped, labelWords, labelOpened}
+use Rattle.statements.specs.Label.{skipped, labelWords, labelOpened, takesIn, wrongIn}
 use Rattle.lists.proofs.At.{many-bad, test-no, kind-here, kind-inside, expect-taken, expect-refused}
 use Rattle.statements.proofs.ItemLaws.{view-inside}
 use Rattle.statements.proofs.StatementLaws.{progress-same}
@@ -594,9 +594,7 @@ abbrev pub Onward : Bool → ℕ → ℕ → ℕ → List Token → Progress →
 Onward strict i a size all t₀ st₀ ar₀ t st ar = (r : Items) (st′ ar′ : List ℕ) → GroupsLeft strict i a size all t st ar r st′ ar′ → Promised strict i a size all t₀ st₀ ar₀ (shut all r) st′ ar′
 
 -- the items of a label are read, whose own record is not yet written
-pub record InLabel (strict : Bool) (text words kept : List ℕ) (i a : ℕ) (t₀ : Progress) (st₀ ar₀ : List ℕ) (takes : Bool) (wrong : ℕ) (t label : Progress) (st ar : List ℕ) : Type 0 where
-  pub push : takes ≡ strict
-  pub six : wrong ≡ 6
+pub record InLabel (strict : Bool) (text words kept : List ℕ) (i a : ℕ) (t₀ : Progress) (st₀ ar₀ : List ℕ) (t label : Progress) (st ar : List ℕ) : Type 0 where
   pub here : t ≡ skipped label 2 1
   pub sign : tokenAt (view text words kept) (label .at) .kind ≡ Label
   pub colon : tokenAt (view text words kept) (label .at + 1) .kind ≡ Colon
@@ -604,15 +602,15 @@ pub record InLabel (strict : Bool) (text words kept : List ℕ) (i a : ℕ) (t�
   pub onward : Onward strict i a (length kept) (view text words kept) t₀ st₀ ar₀ label st ar
 
 -- the macro part's items, or a label's, by whether a label has been opened
-abbrev pub Part : Bool → List ℕ → List ℕ → List ℕ → ℕ → ℕ → Progress → List ℕ → List ℕ → Bool → Bool → ℕ → Progress → Progress → List ℕ → List ℕ → Type 0
-Part strict text words kept i a t₀ st₀ ar₀ false takes wrong t label st ar = (takes ≡ true) × (wrong ≡ 5) × (t ≡ t₀) × (st ≡ st₀) × (ar ≡ ar₀)
-Part strict text words kept i a t₀ st₀ ar₀ true takes wrong t label st ar = InLabel strict text words kept i a t₀ st₀ ar₀ takes wrong t label st ar
+abbrev pub Part : Bool → List ℕ → List ℕ → List ℕ → ℕ → ℕ → Progress → List ℕ → List ℕ → Bool → Progress → Progress → List ℕ → List ℕ → Type 0
+Part strict text words kept i a t₀ st₀ ar₀ false t label st ar = (t ≡ t₀) × (st ≡ st₀) × (ar ≡ ar₀)
+Part strict text words kept i a t₀ st₀ ar₀ true t label st ar = InLabel strict text words kept i a t₀ st₀ ar₀ t label st ar
 
-pub record BodyWalk (strict : Bool) (text words kept : List ℕ) (i a : ℕ) (t₀ : Progress) (st₀ ar₀ : List ℕ) (inside takes : Bool) (wrong : ℕ) (t label : Progress) (st ar : List ℕ) : Type 0 where
+pub record BodyWalk (strict : Bool) (text words kept : List ℕ) (i a : ℕ) (t₀ : Progress) (st₀ ar₀ : List ℕ) (inside : Bool) (t label : Progress) (st ar : List ℕ) : Type 0 where
   pub counting : Counting words kept t i a
   pub sameStatements : length st ≡ length st₀
   pub sameArguments : length ar ≡ length ar₀
-  pub part : Part strict text words kept i a t₀ st₀ ar₀ inside takes wrong t label st ar
+  pub part : Part strict text words kept i a t₀ st₀ ar₀ inside t label st ar
 
 -- a label that the code finds opened
 pub record Opened (text words kept : List ℕ) (next inside : Progress) : Type 0 where
@@ -640,37 +638,37 @@ opened-label text words kept {next} {inside} e = go (eqb (kindAt words kept (nex
 
 module _ (strict : Bool) (text words kept : List ℕ) (i a : ℕ) (t₀ : Progress) (st₀ ar₀ : List ℕ) where
   -- the part's items are read up to the next sign: the macro part's, with the tables as they are
-  pub main-read : {wrong : ℕ} {t label next : Progress} {st ar st₁ ar₁ st₂ : List ℕ} (inside takes : Bool) → inside ≡ false
-      → BodyWalk strict text words kept i a t₀ st₀ ar₀ inside takes wrong t label st ar
-      → ItemsLeft takes wrong i a (length kept) (view text words kept) t st ar (Done next) st₁ ar₁
+  pub main-read : {t label next : Progress} {st ar st₁ ar₁ st₂ : List ℕ} (inside : Bool) → inside ≡ false
+      → BodyWalk strict text words kept i a t₀ st₀ ar₀ inside t label st ar
+      → ItemsLeft (takesIn inside strict) (wrongIn inside) i a (length kept) (view text words kept) t st ar (Done next) st₁ ar₁
       → st₂ ≡ st₁
       → Onward strict i a (length kept) (view text words kept) t₀ st₀ ar₀ next st₂ ar₁
-  main-read {wrong} {t} {label} {next} {st} {ar} {st₁} {ar₁} {st₂} true takes e p v w = absurd (let z : _≡_ {A = ℕ} 0 1 = cc in omega arith)
-  main-read {wrong} {t} {label} {next} {st} {ar} {st₁} {ar₁} {st₂} false takes e p v w =
+  main-read {t} {label} {next} {st} {ar} {st₁} {ar₁} {st₂} true e p v w = absurd (let z : _≡_ {A = ℕ} 0 1 = cc in omega arith)
+  main-read {t} {label} {next} {st} {ar} {st₁} {ar₁} {st₂} false e p v w =
       λ r st′ ar′ left s f brace.
-      body-parsed strict i a (length kept) (view text words kept) s (view-inside text words kept) brace (rw (p .part .0, p .part .1, p .part .2, f, p .part .3, p .part .4) at v) (rw w at left)
+      body-parsed strict i a (length kept) (view text words kept) s (view-inside text words kept) brace (rw (p .part .0, f, p .part .1, p .part .2) at v) (rw w at left)
 
   -- a label's, with its own record written behind them
-  pub label-told : {wrong : ℕ} {t label next : Progress} {st ar st₁ ar₁ st₂ : List ℕ} (inside takes : Bool) → inside ≡ true
-      → BodyWalk strict text words kept i a t₀ st₀ ar₀ inside takes wrong t label st ar
-      → ItemsLeft takes wrong i a (length kept) (view text words kept) t st ar (Done next) st₁ ar₁
+  pub label-told : {t label next : Progress} {st ar st₁ ar₁ st₂ : List ℕ} (inside : Bool) → inside ≡ true
+      → BodyWalk strict text words kept i a t₀ st₀ ar₀ inside t label st ar
+      → ItemsLeft (takesIn inside strict) (wrongIn inside) i a (length kept) (view text words kept) t st ar (Done next) st₁ ar₁
       → st₂ ≡ put statementWidth st₁ (label .statements) (labelWords label i a next)
       → Onward strict i a (length kept) (view text words kept) t₀ st₀ ar₀ next st₂ ar₁
-  label-told {wrong} {t} {label} {next} {st} {ar} {st₁} {ar₁} {st₂} false takes e p v w = absurd (let z : _≡_ {A = ℕ} 0 1 = cc in omega arith)
-  label-told {wrong} {t} {label} {next} {st} {ar} {st₁} {ar₁} {st₂} true takes e p v w =
-      let v′ : ItemsLeft strict 6 i a (length kept) (view text words kept) (skipped label 2 1) st ar (Done next) st₁ ar₁ = rw (p .part .push, p .part .six, p .part .here) at v in
+  label-told {t} {label} {next} {st} {ar} {st₁} {ar₁} {st₂} false e p v w = absurd (let z : _≡_ {A = ℕ} 0 1 = cc in omega arith)
+  label-told {t} {label} {next} {st} {ar} {st₁} {ar₁} {st₂} true e p v w =
+      let v′ : ItemsLeft strict 6 i a (length kept) (view text words kept) (skipped label 2 1) st ar (Done next) st₁ ar₁ = rw (p .part .here) at v in
       let on : endsGroups (tokenAt (view text words kept) (label .at)) ≡ false = rw (p .part .sign) in
       let turn = groups-turn strict i a (length kept) (view text words kept) (view-length text words kept) on (label-parsed strict i a (length kept) (view text words kept) label (p .part .sign) (p .part .colon) v′ w) in
       λ r st′ ar′ left. p .part .onward r st′ ar′ (turn .step r st′ ar′ left)
 
   -- and what its writer needs
-  pub label-room : {wrong : ℕ} {t label next : Progress} {st ar st₁ ar₁ : List ℕ} (inside takes : Bool) → inside ≡ true
-      → BodyWalk strict text words kept i a t₀ st₀ ar₀ inside takes wrong t label st ar
-      → ItemsLeft takes wrong i a (length kept) (view text words kept) t st ar (Done next) st₁ ar₁
+  pub label-room : {t label next : Progress} {st ar st₁ ar₁ : List ℕ} (inside : Bool) → inside ≡ true
+      → BodyWalk strict text words kept i a t₀ st₀ ar₀ inside t label st ar
+      → ItemsLeft (takesIn inside strict) (wrongIn inside) i a (length kept) (view text words kept) t st ar (Done next) st₁ ar₁
       → Small label i a 0 0 0 × ((label .statements + 1 ≤ next .statements) × (next .statements ≤ 65536) × (next .at ≤ 65536))
-  label-room {wrong} {t} {label} {next} {st} {ar} {st₁} {ar₁} false takes e p v = absurd (let z : _≡_ {A = ℕ} 0 1 = cc in omega arith)
-  label-room {wrong} {t} {label} {next} {st} {ar} {st₁} {ar₁} true takes e p v =
-      let v′ : ItemsLeft strict 6 i a (length kept) (view text words kept) (skipped label 2 1) st ar (Done next) st₁ ar₁ = rw (p .part .push, p .part .six, p .part .here) at v in
+  label-room {t} {label} {next} {st} {ar} {st₁} {ar₁} false e p v = absurd (let z : _≡_ {A = ℕ} 0 1 = cc in omega arith)
+  label-room {t} {label} {next} {st} {ar} {st₁} {ar₁} true e p v =
+      let v′ : ItemsLeft strict 6 i a (length kept) (view text words kept) (skipped label 2 1) st ar (Done next) st₁ ar₁ = rw (p .part .here) at v in
       let g = p .part .counting in (
         record {
           at = omega (arith, g .list .few, g .inside);
@@ -686,14 +684,14 @@ module _ (strict : Bool) (text words kept : List ℕ) (i a : ℕ) (t₀ : Progre
       )
 
   -- an item is refused
-  pub part-refused : {wrong c q : ℕ} {t label : Progress} {st ar st₁ ar₁ : List ℕ} (inside takes : Bool)
-      → BodyWalk strict text words kept i a t₀ st₀ ar₀ inside takes wrong t label st ar
-      → ItemsLeft takes wrong i a (length kept) (view text words kept) t st ar (Refused c q) st₁ ar₁
+  pub part-refused : {c q : ℕ} {t label : Progress} {st ar st₁ ar₁ : List ℕ} (inside : Bool)
+      → BodyWalk strict text words kept i a t₀ st₀ ar₀ inside t label st ar
+      → ItemsLeft (takesIn inside strict) (wrongIn inside) i a (length kept) (view text words kept) t st ar (Refused c q) st₁ ar₁
       → Promised strict i a (length kept) (view text words kept) t₀ st₀ ar₀ (Refused c q) st₁ ar₁
-  part-refused {wrong} {c} {q} {t} {label} {st} {ar} {st₁} {ar₁} false takes p v =
-      λ s f brace. main-refused strict i a (length kept) (view text words kept) s brace (rw (p .part .0, p .part .1, p .part .2, f, p .part .3, p .part .4) at v)
-  part-refused {wrong} {c} {q} {t} {label} {st} {ar} {st₁} {ar₁} true takes p v =
-      let v′ : ItemsLeft strict 6 i a (length kept) (view text words kept) (skipped label 2 1) st ar (Refused c q) st₁ ar₁ = rw (p .part .push, p .part .six, p .part .here) at v in
+  part-refused {c} {q} {t} {label} {st} {ar} {st₁} {ar₁} false p v =
+      λ s f brace. main-refused strict i a (length kept) (view text words kept) s brace (rw (p .part .0, f, p .part .1, p .part .2) at v)
+  part-refused {c} {q} {t} {label} {st} {ar} {st₁} {ar₁} true p v =
+      let v′ : ItemsLeft strict 6 i a (length kept) (view text words kept) (skipped label 2 1) st ar (Refused c q) st₁ ar₁ = rw (p .part .here) at v in
       let on : endsGroups (tokenAt (view text words kept) (label .at)) ≡ false = rw (p .part .sign) in
       p .part .onward (Refused c q) st₁ ar₁ (groups-refused strict i a (length kept) (view text words kept) (view-length text words kept) on (label-refused strict i a (length kept) (view text words kept) label (p .part .sign) (p .part .colon) v′))
 
@@ -728,20 +726,20 @@ module _ (strict : Bool) (text words kept : List ℕ) (i a : ℕ) (t₀ : Progre
           (no-colon strict i a (length kept) (view text words kept) next (view-kind text words kept (next .at) ∙ eqb-true _ _ f) (λ z. eqb-false _ _ g (sym (view-kind text words kept (next .at + 1)) ∙ z)))
       go true true f g h = absurd (let z : _≡_ {A = ℕ} 0 1 = cc in omega arith)
 
-  pub body-starts : Counting words kept t₀ i a → (label : Progress) → BodyWalk strict text words kept i a t₀ st₀ ar₀ false true 5 t₀ label st₀ ar₀
-  body-starts h label = record { counting = h; sameStatements = refl; sameArguments = refl; part = (refl, refl, refl, refl, refl) }
+  pub body-starts : Counting words kept t₀ i a → (label : Progress) → BodyWalk strict text words kept i a t₀ st₀ ar₀ false t₀ label st₀ ar₀
+  body-starts h label = record { counting = h; sameStatements = refl; sameArguments = refl; part = (refl, refl, refl) }
 
   -- a turn further: a label opens there, and its items are next
   pub body-steps : {next behind : Progress} {st ar : List ℕ} → Counting words kept next i a → Onward strict i a (length kept) (view text words kept) t₀ st₀ ar₀ next st ar
       → Done behind ≡ labelOpened words kept next
       → length st ≡ length st₀
       → length ar ≡ length ar₀
-      → BodyWalk strict text words kept i a t₀ st₀ ar₀ true strict 6 behind next st ar
+      → BodyWalk strict text words kept i a t₀ st₀ ar₀ true behind next st ar
   body-steps {next} {behind} {st} {ar} h w e es ea =
       let o = opened-label text words kept e in
       record {
         counting = rw (o .here) (counting-skip 2 1 h (o .further) (omega arith));
         sameStatements = es;
         sameArguments = ea;
-        part = record { push = refl; six = refl; here = o .here; sign = o .sign; colon = o .colon; counting = h; onward = w };
+        part = record { here = o .here; sign = o .sign; colon = o .colon; counting = h; onward = w };
       }

@@ -16,6 +16,7 @@ use Rattle.tokens.specs.Door as doors
 use Rattle.tokens.specs.Door.{Prepared}
 use Rattle.tokens.specs.declared.door.Door.{Door}
 use Rattle.tokens.specs.declared.door.Door.the-variants.{Ready}
+use Rattle.tokens.specs.Place.{Place}
 use Rattle.tokens.proofs.PlaceLaws.{kept-part}
 use Rattle.tokens.proofs.LentLaws.{cleared-none, Wide, records-then-zeros}
 use Rattle.grammar.specs.Reading.{Reading}
@@ -35,7 +36,7 @@ use Rattle.statements.specs.declared.item.Items.{Items}
 use Rattle.statements.specs.declared.item.Items.the-variants as items
 use Rattle.statements.specs.declared.entry.Body.{Body}
 use Rattle.statements.specs.declared.entry.Body.the-variants.{UnknownMode, Refused, StatementsTooSmall, ArgumentsTooSmall, Read}
-use Rattle.statements.specs.Answers.{BodyParsed}
+use Rattle.statements.specs.Answers.{Counting, BodyParsed}
 use Rattle.statements.specs.Call.{values, numberOf, Own, afterReading, BodyCall}
 use Rattle.statements.specs.Length.{lengthFrom}
 use Rattle.statements.specs.Settled.{settledItems, Settled, BodyRead}
@@ -93,6 +94,18 @@ module _ (st ar : List ℕ) (rd : Reading) (start n : ℕ) where
             statementsLeft = records-then-zeros statementWidth (statementRecords 0 0 rd) st (omega arith) (all-wide statementWidth (statementRecords 0 0 rd) (wide .0)) (many .0) (ltb-false _ _ eb) es;
             argumentsLeft = records-then-zeros argumentWidth (argumentRecords rd) ar (omega arith) (all-wide argumentWidth (argumentRecords rd) (wide .1)) (many .1) (ltb-false _ _ ed) ea;
           }
+
+-- from a place of the list a body can be read, with no records before it
+pub body-begins : {words kept : List ℕ} {p : ℕ} → Place words kept p → Counting words kept (startProgress p) 0 0
+body-begins g =
+    record {
+      list = g .list;
+      inside = g .inside;
+      statements = omega arith;
+      arguments = omega arith;
+      statementsBefore = omega arith;
+      argumentsBefore = omega arith;
+    }
 
 -- what the parser read, settled
 pub body-read : (m : Rules) (text words kept : List ℕ) (start : ℕ) (st ar : List ℕ) {st₁ ar₁ st₂ ar₂ : List ℕ} {x : Items} {r : Body}

@@ -6,7 +6,6 @@ use mathlib.Core.Path.{_≡_, refl, sym, ap, _∙_}
 use mathlib.Core.Bool.{Bool, true, false, cond, true≢false}
 use mathlib.Core.List.{List}
 use mathlib.Core.Logic.{_⊎_, inl, inr}
-use borrow.Author.Tests.{lt-ltb, le-ltb}
 use lib.ListN.{length, drop}
 use lib.Dec.{ltb}
 use Rattle.tokens.specs.Number.{DuplicateLabel, mostTokens}
@@ -30,13 +29,6 @@ use Rattle.statements.proofs.Pieces.{refused-parsed}
 cursor-same : (s : Progress) (x : Res Reading) → cursorAt (bodyAnswer s x) ≡ cursorOf (s .at) x
 cursor-same s (got rd k) = refl
 cursor-same s (bad y w) = refl
-
--- what the code answers where the walk finds a label before the cursor, and where it finds none
-pub again-found : (all : List Token) (p : ℕ) {e at : ℕ} (read : Items) → e ≡ cursorAt read → at ≡ firstAgain all p e → at < e → Refused DuplicateLabel at ≡ namedOnce all p read
-again-found all p {e} {at} read end is lt = rw (← end, ← is, lt-ltb at e lt)
-
-pub again-none : (all : List Token) (p : ℕ) {e at : ℕ} (read : Items) → e ≡ cursorAt read → at ≡ firstAgain all p e → e ≤ at → read ≡ namedOnce all p read
-again-none all p {e} {at} read end is le = rw (← end, ← is, le-ltb at e le)
 
 -- the cursor of a body read without the rule on names lies in the list or at its end
 pub parts-end : (strict : Bool) (text words kept : List ℕ) {i a : ℕ} {s : Progress} {st ar st₁ ar₁ : List ℕ} {r : Items} → Counting words kept s i a

@@ -6,11 +6,13 @@ use crate::item::Statement;
 use crate::item::parse_item;
 use crate::item::put_statement;
 use names::first_again;
+use names::first_again_long;
 use tokens::kind;
 use tokens::kind_at;
 use tokens::number;
 ghost use mathlib.Core.Path.{_≡_};
 ghost use lib.ListN.{length};
+ghost use lib.Dec.{ltb};
 ghost use Prim.Native.Nat.{_+_, _≤_};
 ghost use Rattle.tokens.specs.Number.{statementWidth, mostTokens};
 ghost use Rattle.tokens.specs.Place.{Numbered, FromDoor, tokensFrom};
@@ -20,7 +22,8 @@ ghost use Rattle.grammar.specs.Again.{pushing};
 ghost use Rattle.statements.specs.Answers.{Counting, SimpleParsed, BodyParsed, flattened};
 ghost use Rattle.tokens.specs.Lent.{put};
 ghost use Rattle.statements.specs.Item.{Small};
-ghost use Rattle.statements.specs.Label.{skipped, labelWords, labelOpened, cursorAt, namedOnce};
+ghost use Rattle.names.specs.Labels.{shortBody};
+ghost use Rattle.statements.specs.Label.{skipped, labelWords, labelOpened, takesIn, wrongIn, cursorAt, judgedAt, namedOnce};
 
 // Items up to the next Label or CloseBrace.
 fn parse_items(
@@ -128,6 +131,24 @@ fn open_label(tokens: &[u32], kept: &[u32], s: Progress) -> Items
     Items::Done(skip(s, 2, 1))
 }
 
+// Whether a value push takes its literal: inside a label only in strict reading.
+fn takes_literal(inside: bool, strict: bool) -> bool
+    ensures { λ r. ⌜ r ≡ takesIn inside strict ⌝ }
+{
+    if inside { strict } else { true }
+}
+
+// The number for a token that begins no item.
+fn wrong_in(inside: bool) -> u32
+    ensures { λ r. ⌜ r ≡ wrongIn inside ⌝ }
+{
+    if inside {
+        number::INVALID_TOKEN_IN_LABEL_DEFINITION
+    } else {
+        number::INVALID_TOKEN_IN_MACRO_BODY
+    }
+}
+
 // `{`, plain items, label groups, `}`, whatever the labels' names (`named_once`): the Rust's `parse_body` and `parse_label` in one loop, each turn of which reads items up to the next
 // Label or CloseBrace. So `parse_items` is called at one place, and the compiler makes one function of both: with a function for a label's part, a file of many
 // macros takes 12 in 100 longer.
@@ -152,12 +173,12 @@ pub fn parse_body(
         return Items::Refused(number::UNEXPECTED_TYPE, at);
     }
     let mut t = skip(s, 1, 0);
-    // the label whose items are read, once there is one: from then on a push takes a literal only in strict reading
+    // the label whose items are read, once there is one
     let mut label = t;
     let mut inside = false;
-    let mut takes = true;
-    let mut wrong = number::INVALID_TOKEN_IN_MACRO_BODY;
     loop {
+        let takes = takes_literal(inside, strict);
+        let wrong = wrong_in(inside);
         match parse_items(
             text,
             tokens,
@@ -189,8 +210,6 @@ pub fn parse_body(
                         label = next;
                         t = behind;
                         inside = true;
-                        takes = strict;
-                        wrong = number::INVALID_TOKEN_IN_LABEL_DEFINITION;
                     }
                 }
             }
@@ -208,18 +227,46 @@ fn cursor_of(read: Items) -> usize
     }
 }
 
-// What was read from place p on, unless a label in it has a name that stands again: then that label is refused. What is read before a label does not hang on names, so
-// they can be looked at behind it all, in one walk over the tokens. Each of the two readers of a body asks for it itself where reading is strict: called at one place
-// the compiler would make it part of that reader, and its room for names with it, in both modes.
-pub fn named_once(text: &[u8], tokens: &[u32], kept: &[u32], p: usize, read: Items) -> Items
-    requires { ⌜ FromDoor (now tokens) (now kept) ⌝ }
-    requires { ⌜ (p ≤ mostTokens) × (cursorAt read ≤ mostTokens) ⌝ }
-    ensures { λ r. ⌜ r ≡ namedOnce (view (now (text .entry)) (now (tokens .entry)) (now (kept .entry))) p read ⌝ }
+// What was read, unless `at` is the place of a label before its cursor: then that label is refused.
+fn judged(read: Items, at: usize) -> Items
+    ensures { λ r. ⌜ r ≡ judgedAt read at ⌝ }
 {
     let end = cursor_of(read);
-    let at = first_again(text, tokens, kept, p, end);
     if at < end {
         return Items::Refused(number::DUPLICATE_LABEL, at);
     }
     read
+}
+
+// Whether what was read from place p on is a long body.
+pub fn is_long(p: usize, read: Items) -> bool
+    requires { ⌜ p ≤ mostTokens ⌝ }
+    ensures { λ r. ⌜ r ≡ ltb (p + shortBody) (cursorAt read) ⌝ }
+{
+    names::is_long(p, cursor_of(read))
+}
+
+// What was read from place p on, unless a label in it has a name that stands again: then that label is refused. What is read before a label does not hang on names, so
+// they can be looked at behind it all, in one walk over the tokens.
+//
+// Each of the two readers of a body asks for it itself where reading is strict, and tells short bodies from long ones. Called at one place the compiler would make a part
+// of that reader of it, with its room for names: mode 0 would need that room too, and each short body would touch the pages of a long one's.
+pub fn named_once(text: &[u8], tokens: &[u32], kept: &[u32], p: usize, read: Items) -> Items
+    requires { ⌜ FromDoor (now tokens) (now kept) ⌝ }
+    requires { ⌜ (p ≤ mostTokens) × (cursorAt read ≤ mostTokens) × (cursorAt read ≤ p + shortBody) ⌝ }
+    ensures { λ r. ⌜ r ≡ namedOnce (view (now (text .entry)) (now (tokens .entry)) (now (kept .entry))) p read ⌝ }
+{
+    judged(read, first_again(text, tokens, kept, p, cursor_of(read)))
+}
+
+// The same of a long body.
+pub fn named_once_long(text: &[u8], tokens: &[u32], kept: &[u32], p: usize, read: Items) -> Items
+    requires { ⌜ FromDoor (now tokens) (now kept) ⌝ }
+    requires { ⌜ (p ≤ mostTokens) × (cursorAt read ≤ mostTokens) ⌝ }
+    ensures { λ r. ⌜ r ≡ namedOnce (view (now (text .entry)) (now (tokens .entry)) (now (kept .entry))) p read ⌝ }
+{
+    judged(
+        read,
+        first_again_long(text, tokens, kept, p, cursor_of(read)),
+    )
 }

@@ -1,5 +1,7 @@
 // The entry for one body.
+use crate::body::is_long;
 use crate::body::named_once;
+use crate::body::named_once_long;
 use crate::body::parse_body;
 use crate::item::Items;
 use crate::item::Progress;
@@ -100,7 +102,11 @@ fn reading(
     };
     let mut read = parse_body(text, tokens, kept, strict, s, statements, arguments, 0, 0);
     if strict {
-        read = named_once(text, tokens, kept, start, read);
+        if is_long(start, read) {
+            read = named_once_long(text, tokens, kept, start, read);
+        } else {
+            read = named_once(text, tokens, kept, start, read);
+        }
     }
     settle(text, tokens, kept, start, read, statements, arguments)
 }

@@ -4,7 +4,9 @@ mod entry;
 mod item;
 mod length;
 
+pub use body::is_long;
 pub use body::named_once;
+pub use body::named_once_long;
 pub use body::parse_body;
 pub use entry::Body;
 pub use entry::read_body;

@@ -1,10 +1,11 @@
 use native.Mathlib.Omega.{arith}
-use mathlib.Core.Path.{_∙_}
+use mathlib.Core.Path.{sym, _∙_}
 use mathlib.Core.Logic.{⊎-elim, inl, inr}
+use borrow.Author.Tests.{ltb-false}
 use Rattle.tokens.specs.Token.{view}
 use Rattle.grammar.specs.Rules.{asks}
 use Rattle.statements.proofs.LabelLaws.{parts-end, body-named}
-use Rattle.definitions.proofs.MacroLaws.{numbers-are-refused, body-is-refused, tail-read}
+use Rattle.definitions.proofs.MacroLaws.{body-begins, numbers-are-refused, body-is-refused, tail-read}
 use borrow.Author.Needs.{needs}
 use Rattle.definitions.proofs.macros.macro_tail.Statement.{statement}
 use Rattle.definitions.proofs.macros.macro_tail.Tie as tie
@@ -21,16 +22,27 @@ enum-known-takes c = search needs
 parse-body-requires : tie.Need-parse-body-requires
 parse-body-requires c κs =
     let h = rw (c .before .before .before .takes .given .1) at (c .before .before .before .before .before .macro-numbers .ensures (c .before .before .before .before .before .before .before .before .before .before .before .args .text .now) .within) in
-    let g = c .before .before .before .before .before .before .before .before .before .before .before .pre in
-    record { list = g .0 .list; inside = h .1; statements = omega arith; arguments = omega (arith, g .1); statementsBefore = g .0 .statementsBefore; argumentsBefore = g .0 .argumentsBefore }
+    body-begins (c .before .before .before .before .before .before .before .before .before .before .before .pre .0) (c .before .before .before .before .before .before .before .before .before .before .before .pre .1) (omega (arith, h .0)) (h .1)
+
+is-long-requires : tie.Need-is-long-requires
+is-long-requires c κs =
+    let h = rw (c .before .before .before .before .before .before .before .before .before .takes .given .1) at (c .before .before .before .before .before .before .before .before .before .before .before .macro-numbers .ensures (c .before .before .before .before .before .before .before .before .before .before .before .before .before .before .before .before .before .args .text .now) .within) in
+    omega (arith, h .1, c .before .before .before .before .before .before .before .before .before .before .before .before .before .before .before .before .before .pre .0 .list .few)
+
+named-once-long-requires : tie.Need-named-once-long-requires
+named-once-long-requires c κs =
+    let a = c .before .before .before .before .before .before .before .before .before .before .before .before .before .before .before .before .before .before .before .args in
+    let g = c .before .before .before .before .before .before .before .before .before .before .before .before .before .before .before .before .before .before .before .pre in
+    let h = rw (c .before .before .before .before .before .before .before .before .before .before .before .takes .given .1) at (c .before .before .before .before .before .before .before .before .before .before .before .before .before .macro-numbers .ensures (a .text .now) .within) in
+    (g .0 .list, (omega (arith, h .1, g .0 .list .few), parts-end (a .strict) (a .text .now) (a .tokens .now) (a .kept .now) (body-begins (g .0) (g .1) (omega (arith, h .0)) (h .1)) (c .before .before .before .before .before .before .before .parse-body .ensures)))
 
 named-once-requires : tie.Need-named-once-requires
 named-once-requires c κs =
-    let a = c .before .before .before .before .before .before .before .before .before .before .before .before .before .before .before .before .before .args in
-    let g = c .before .before .before .before .before .before .before .before .before .before .before .before .before .before .before .before .before .pre in
-    let h = rw (c .before .before .before .before .before .before .before .before .before .takes .given .1) at (c .before .before .before .before .before .before .before .before .before .before .before .macro-numbers .ensures (a .text .now) .within) in
-    let v = c .before .before .before .before .before .parse-body in
-    (g .0 .list, (omega (arith, h .1, g .0 .list .few), parts-end (a .strict) (a .text .now) (a .tokens .now) (a .kept .now) (record { list = g .0 .list; inside = h .1; statements = omega arith; arguments = omega (arith, g .1); statementsBefore = g .0 .statementsBefore; argumentsBefore = g .0 .argumentsBefore }) (v .ensures)))
+    let a = c .before .before .before .before .before .before .before .before .before .before .before .before .before .before .before .before .before .before .before .args in
+    let g = c .before .before .before .before .before .before .before .before .before .before .before .before .before .before .before .before .before .before .before .pre in
+    let h = rw (c .before .before .before .before .before .before .before .before .before .before .before .takes .given .1) at (c .before .before .before .before .before .before .before .before .before .before .before .before .before .macro-numbers .ensures (a .text .now) .within) in
+    let end = parts-end (a .strict) (a .text .now) (a .tokens .now) (a .kept .now) (body-begins (g .0) (g .1) (omega (arith, h .0)) (h .1)) (c .before .before .before .before .before .before .before .parse-body .ensures) in
+    (g .0 .list, (omega (arith, h .1, g .0 .list .few), end, ltb-false _ _ (sym (c .before .is-long .ensures) ∙ c .if2 .left)))
 
 enum-known-read : tie.Need-enum-known-read
 enum-known-read c = search needs
@@ -53,7 +65,8 @@ returns-2 : tie.Need-returns-2
 returns-2 c =
     let a = c .before .before .before .before .before .before .before .before .before .before .before .before .before .before .before .before .before .before .before .before .args in
     let all = view (a .text .now) (a .tokens .now) (a .kept .now) in
-    let named = body-named (a .strict) all {r′ = c .before .before .before .if1 .read} (c .before .before .before .before .before .before .before .before .parse-body .ensures) (⊎-elim (λ x. inl (x .0 .taken, x .2 ∙ x .1 .ensures)) (λ x. inr (x .0 .left, x .1)) (c .before .before .before .if1 .came)) in
+    let named = body-named (a .strict) all {r′ = c .before .before .before .if1 .read} (c .before .before .before .before .before .before .before .before .parse-body .ensures)
+    (⊎-elim (λ x. inl (x .0 .taken, x .4 ∙ x .3 .ensures)) (⊎-elim (λ x. inl (x .0 .taken, x .4 ∙ x .3 .ensures)) (λ x. inr (x .0 .left, x .1))) (c .before .before .before .if1 .came)) in
     body-is-refused (asks (a .strict)) all (rw (c .before .before .before .before .before .before .before .before .before .before .before .before .takes .given .1) at (c .before .before .before .before .before .before .before .before .before .before .before .before .before .before .macro-numbers .ensures (a .text .now))) (rw (c .before .read .given .1) at named)
 
 same-length-3 : tie.Need-same-length-3
@@ -66,7 +79,8 @@ returns-3 : tie.Need-returns-3
 returns-3 c =
     let a = c .before .before .before .before .before .before .before .before .before .before .before .before .before .before .before .before .before .before .before .before .args in
     let all = view (a .text .now) (a .tokens .now) (a .kept .now) in
-    let named = body-named (a .strict) all {r′ = c .before .before .before .if1 .read} (c .before .before .before .before .before .before .before .before .parse-body .ensures) (⊎-elim (λ x. inl (x .0 .taken, x .2 ∙ x .1 .ensures)) (λ x. inr (x .0 .left, x .1)) (c .before .before .before .if1 .came)) in
+    let named = body-named (a .strict) all {r′ = c .before .before .before .if1 .read} (c .before .before .before .before .before .before .before .before .parse-body .ensures)
+    (⊎-elim (λ x. inl (x .0 .taken, x .4 ∙ x .3 .ensures)) (⊎-elim (λ x. inl (x .0 .taken, x .4 ∙ x .3 .ensures)) (λ x. inr (x .0 .left, x .1))) (c .before .before .before .if1 .came)) in
     tail-read (asks (a .strict)) all (rw (c .before .before .before .before .before .before .before .before .before .before .before .before .takes .given .1) at (c .before .before .before .before .before .before .before .before .before .before .before .before .before .before .macro-numbers .ensures (a .text .now))) (rw (c .before .read2 .given .1) at named)
 
 pub macro-tail-spec : {M : Type 1} → statement M
@@ -77,6 +91,8 @@ macro-tail-spec =
     enum-known-c
     enum-known-takes
     parse-body-requires
+    is-long-requires
+    named-once-long-requires
     named-once-requires
     enum-known-read
     enum-known-read-2

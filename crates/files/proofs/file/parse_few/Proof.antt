@@ -1,7 +1,7 @@
 -- `parse_few`: its arrays are room for as many names as 1,536 tokens can have. Assumes nothing.
 use native.Mathlib.Omega.{arith}
 use borrow.Author.Needs.{needs}
-use Rattle.files.proofs.FileLaws.{roomy}
+use Rattle.names.proofs.NamesLaws.{fresh-room}
 use Rattle.files.proofs.file.parse_few.Statement.{statement}
 use Rattle.files.proofs.file.parse_few.Tie as tie
 
@@ -17,7 +17,7 @@ slice-aggregate-parse-3 c = search needs
 parse-requires : tie.Need-parse-requires
 parse-requires c κs =
     let pre = c .before .before .before .before .before .before .before .before .before .before .before .before .pre in
-    roomy 256 192 (pre .0) (omega arith) (omega (arith, pre .1))
+    record { list = pre .0; room = fresh-room 8 _ 256 192 0 0 (omega arith) (omega (arith, pre .1)) }
 
 same-length : tie.Need-same-length
 same-length c = search needs

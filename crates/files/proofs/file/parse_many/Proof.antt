@@ -1,7 +1,7 @@
 -- `parse_many`: its arrays are room for as many names as 65,536 tokens can have. Assumes nothing.
 use native.Mathlib.Omega.{arith}
 use borrow.Author.Needs.{needs}
-use Rattle.files.proofs.FileLaws.{roomy}
+use Rattle.names.proofs.NamesLaws.{fresh-room}
 use Rattle.files.proofs.file.parse_many.Statement.{statement}
 use Rattle.files.proofs.file.parse_many.Tie as tie
 
@@ -17,7 +17,7 @@ slice-aggregate-parse-3 c = search needs
 parse-requires : tie.Need-parse-requires
 parse-requires c κs =
     let list = c .before .before .before .before .before .before .before .before .before .before .before .before .pre in
-    roomy 8192 8192 list (omega arith) (omega (arith, list .few))
+    record { list = list; room = fresh-room 8 _ 8192 8192 0 0 (omega arith) (omega (arith, list .few)) }
 
 same-length : tie.Need-same-length
 same-length c = search needs

@@ -1,6 +1,6 @@
 -- `walk_few`: its arrays are room for as many labels as 32 tokens can have. Assumes nothing.
 use native.Mathlib.Omega.{arith}
-use Rattle.names.proofs.LabelsLaws.{roomy}
+use Rattle.names.proofs.NamesLaws.{fresh-room}
 use borrow.Author.Needs.{needs}
 use Rattle.names.proofs.labels.walk_few.Statement.{statement}
 use Rattle.names.proofs.labels.walk_few.Tie as tie
@@ -15,7 +15,7 @@ slice-aggregate-walk-3 : tie.Need-slice-aggregate-walk-3
 slice-aggregate-walk-3 c = search needs
 
 walk-requires : tie.Need-walk-requires
-walk-requires c κs = (search needs, (omega arith, roomy 16 _ _ (omega arith) (omega arith)))
+walk-requires c κs = (search needs, (omega arith, fresh-room 2 _ 32 16 0 0 (omega arith) (omega arith)))
 
 returns : tie.Need-returns
 returns c = search needs

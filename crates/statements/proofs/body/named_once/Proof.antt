@@ -1,6 +1,8 @@
+use mathlib.Core.Path.{ap, _∙_}
 use denote.Ref.{now}
 use Rattle.tokens.specs.Token.{view}
-use Rattle.statements.proofs.LabelLaws.{again-found, again-none}
+use Rattle.grammar.specs.Again.{firstAgain}
+use Rattle.statements.specs.Label.{judgedAt}
 use borrow.Author.Needs.{needs}
 use Rattle.statements.proofs.body.named_once.Statement.{statement}
 use Rattle.statements.proofs.body.named_once.Tie as tie
@@ -11,15 +13,14 @@ cursor-of-requires c κs = search needs
 first-again-requires : tie.Need-first-again-requires
 first-again-requires c κs = search needs
 
+judged-requires : tie.Need-judged-requires
+judged-requires c κs = search needs
+
 returns : tie.Need-returns
 returns c =
     let a = c .before .before .before .before .before .before .args in
-    again-found (view (now (a .text)) (now (a .tokens)) (now (a .kept))) (a .p) (a .read) (c .before .before .cursor-of .ensures) (c .before .first-again .ensures) (c .if1 .taken)
-
-returns-2 : tie.Need-returns-2
-returns-2 c =
-    let a = c .before .before .before .before .before .before .args in
-    again-none (view (now (a .text)) (now (a .tokens)) (now (a .kept))) (a .p) (a .read) (c .before .before .cursor-of .ensures) (c .before .first-again .ensures) (c .if1 .left)
+    c .judged .ensures ∙ ap (judgedAt (a .read)) (c .before .first-again .ensures ∙ ap (firstAgain (view (now (a .text)) (now (a .tokens)) (now (a .kept))) (a .p)) (c .before .before .cursor-of .ensures))
 
 pub named-once-spec : {M : Type 1} → statement M
-named-once-spec = tie.close (tie.spec cursor-of-requires first-again-requires returns returns-2)
+named-once-spec =
+    tie.close (tie.spec cursor-of-requires first-again-requires judged-requires returns)
