@@ -1,6 +1,6 @@
 -- The rule set: what may be asked of a label beyond document 01, and which mode of a call asks it.
 use Prim.Native.Nat.{ℕ}
-use mathlib.Core.Bool.{Bool, true, false, _||_}
+use mathlib.Core.Bool.{Bool, false, _||_}
 use lib.Dec.{eqb}
 use Rattle.tokens.specs.Number.{lenientMode, strictMode}
 

@@ -235,6 +235,13 @@ fresh-noted all room =
 
 -- ---- one name more
 
+-- an earlier number is another, and a number before n + 1 is n or earlier
+apart : (j n : ℕ) → j < n → j ≡ n → ⊥
+apart j n lt e = omega arith
+
+down : (j n : ℕ) → j < suc n → j ≤ n
+down j n lt = omega arith
+
 -- a note tells the place and the tag
 note-place : (h p : ℕ) → p < mostTokens → placeOf (noteOf h p) ≡ p
 note-place h p few = omega arith
@@ -262,9 +269,6 @@ module _ (all : List Token) (heads next places : List ℕ) (n p : ℕ) where
   -- what was remembered before stays: a name, the names, the last of a bucket
   earlier : (j : ℕ) → j < n → nameAt all places′ j ≡ nameAt all places j
   earlier j lt = ap (λ (q : ℕ). tokenAt all (placeOf q) .text) (getD-set-other places n j note 0 (apart j n lt))
-    where
-      apart : (j n : ℕ) → j < n → j ≡ n → ⊥
-      apart j n lt e = omega arith
 
   earlier-names : (k : ℕ) → k ≤ n → namesAt all places′ k ≡ namesAt all places k
   unfolding namesAt
@@ -310,12 +314,6 @@ module _ (all : List Token) (heads next places : List ℕ) (n p : ℕ) where
         ∙ noted .link j l
         ∙ sym (earlier-latest (length heads) (bucketOf (length heads) (nameAt all places j)) j (omega arith))))
         (eq-or-lt-of-le (down j n lt))
-      where
-        apart : (j n : ℕ) → j < n → j ≡ n → ⊥
-        apart j n lt e = omega arith
-
-        down : (j n : ℕ) → j < suc n → j ≤ n
-        down j n lt = omega arith
 
     -- its tag stands beside it
     tag′ : (j : ℕ) → j < suc n → tagOf (getD places′ j 0) ≡ tagOf (hashOf (nameAt all places′ j))
@@ -324,12 +322,6 @@ module _ (all : List Token) (heads next places : List ℕ) (n p : ℕ) where
         (λ (e : j ≡ n). rw (e, newest) (ap tagOf (getD-set-same places n note 0 room′) ∙ note-tag (hashOf (tokenAt all p .text)) p few))
         (λ (l : j < n). rw (earlier j l) (ap tagOf (getD-set-other places n j note 0 (apart j n l)) ∙ noted .tag j l))
         (eq-or-lt-of-le (down j n lt))
-      where
-        apart : (j n : ℕ) → j < n → j ≡ n → ⊥
-        apart j n lt e = omega arith
-
-        down : (j n : ℕ) → j < suc n → j ≤ n
-        down j n lt = omega arith
 
     -- one name more is remembered
     noted-more : Noting false all (tokenAt all p .text) places n heads′ next′ places′ (suc n)

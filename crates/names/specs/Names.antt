@@ -49,7 +49,7 @@ bucketIn size h = bitAnd h (size - 1)
 abbrev pub bucketOf : ℕ → List ℕ → ℕ
 bucketOf size name = bucketIn size (hashOf name)
 
--- the tag of a hash: its high bits
+-- the tag of a hash, and of what is stored of a name: the high bits
 abbrev pub tagOf : ℕ → ℕ
 tagOf h = h / mostTokens
 

@@ -1,5 +1,5 @@
 -- The rule on labels' names behind the reading: the cursor that the walk over labels goes up to, and what was read with that rule. Assumes nothing.
-use Prim.Native.Nat.{ℕ, _+_, _≤_, _<_}
+use Prim.Native.Nat.{ℕ, _≤_}
 use native.Mathlib.Nat.{add-zero}
 use native.Mathlib.Omega.{arith}
 use mathlib.Core.Path.{_≡_, refl, sym, ap, _∙_}
@@ -20,7 +20,7 @@ use Rattle.grammar.specs.Again.{pushing, firstAgain, cursorOf, once}
 use Rattle.grammar.proofs.NamesOnce.{names-once, cursor-inside}
 use Rattle.statements.specs.declared.item.Progress.{Progress}
 use Rattle.statements.specs.declared.item.Items.{Items}
-use Rattle.statements.specs.declared.item.Items.the-variants.{Done, Refused}
+use Rattle.statements.specs.declared.item.Items.the-variants.{Refused}
 use Rattle.statements.specs.Answers.{Counting, bodyAnswer, BodyParsed}
 use Rattle.statements.specs.Label.{cursorAt, namedOnce}
 use Rattle.statements.proofs.Pieces.{refused-parsed}
