@@ -77,11 +77,24 @@ static size_t count_kept(const struct call *c, size_t tokens)
     return count;
 }
 
+static bool is_edition(uint32_t edition)
+{
+    return edition == FIRST_EDITION || edition == SECOND_EDITION;
+}
+
+/* Only a body has an edition. */
+static bool has_no_edition(const struct call *c)
+{
+    return c->body && !is_edition(c->edition);
+}
+
 struct door door_of(const struct call *c)
 {
     size_t tokens = c->tokens_len / TOKEN;
     if (c->mode > STRICT_MODE)
         return (struct door){36, 0, 0};
+    if (has_no_edition(c))
+        return (struct door){38, 0, 0};
     if (c->text_len > MOST_TEXT || c->tokens_len % TOKEN != 0 || tokens == 0 || tokens > MOST_TOKENS)
         return (struct door){30, 0, 0};
     size_t bad = first_bad(c, tokens);
@@ -97,16 +110,19 @@ struct door door_of(const struct call *c)
 
 bool leaves_all(uint64_t number)
 {
-    return number == 30 || number == 31 || number == 35 || number == 36;
+    return number == 30 || number == 31 || number == 35 || number == 36 || number == 38;
 }
 
-/* The numbers of the table that this entry can give in this mode. 2, 3, 9 and 11 belong to things outside bodies. */
+/* The numbers of the table that this entry can give in this mode and edition. 2, 3, 9 and 11 belong to things outside
+ * bodies. */
 static bool number_is_known(const struct call *c, uint64_t number)
 {
     if (number == 22)
         return c->mode == STRICT_MODE;
     if (number == 36)
         return c->mode > STRICT_MODE;
+    if (number == 38)
+        return has_no_edition(c);
     if (c->body)
         return number <= 1 || (number >= 4 && number <= 8) || number == 10 || number == 12 || number == 13 ||
                number == 30 || number == 31 || (number >= 33 && number <= 35);
@@ -302,6 +318,23 @@ static uint32_t significant_bytes(const struct call *c, uint32_t place)
     return at == word[2] ? 1 : (word[2] - at + 1) / 2;
 }
 
+static bool is_zero_literal(const struct call *c, uint32_t place)
+{
+    const uint32_t *word = c->tokens + TOKEN * c->kept[place];
+    for (uint32_t at = word[1] + 2; at < word[2]; at++)
+        if (c->text[at] != '0')
+            return false;
+    return true;
+}
+
+/* Of a literal that is no push's operand: in edition 2 one byte pushes a zero, however many digits it has. */
+static uint32_t literal_bytes(const struct call *c, uint32_t place)
+{
+    if (c->edition == SECOND_EDITION && is_zero_literal(c, place))
+        return 1;
+    return 1 + significant_bytes(c, place);
+}
+
 /* A push's operand is the next record: a label's inner records end at the next label's. */
 static uint64_t plain_length(const struct call *c, uint64_t statements)
 {
@@ -317,7 +350,7 @@ static uint64_t plain_length(const struct call *c, uint64_t statements)
             continue;
         }
         switch (s[0]) {
-        case 1: length += 1 + significant_bytes(c, s[7]); break;
+        case 1: length += literal_bytes(c, s[7]); break;
         case 2: length += 1; break;
         case 3: length += 3; break;
         case 5: length += 1; break;
@@ -434,7 +467,7 @@ static const char *broken_acceptance(const struct call *c, size_t kept_count)
     if (c->body && (cursor <= c->start || cursor >= kept_count || kind_at(c, cursor - 1) != CLOSE_BRACE))
         return "an accepted body's cursor is one past its brace";
     if (c->body && c->answer[4] != plain_length(c, n.statements))
-        return "the plain length is that of the statements";
+        return "the plain length is that of the statements in this edition";
     return c->mode == STRICT_MODE ? broken_strict(c, n) : NULL;
 }
 
@@ -478,8 +511,8 @@ static const char *broken_at_door(const struct call *c, struct door door)
 {
     const uint64_t *a = c->answer;
     if (a[0] != door.number || a[1] != door.cursor || a[2] != 0 || a[3] != 0 || a[4] != 0)
-        return "36, 30, 35 and 31 are given in this order, with their cursors";
-    return all_untouched(c) ? NULL : "after 30, 31, 35 and 36 nothing lent has changed";
+        return "36, 38, 30, 35 and 31 are given in this order, with their cursors";
+    return all_untouched(c) ? NULL : "after 30, 31, 35, 36 and 38 nothing lent has changed";
 }
 
 const char *broken_rule(const struct call *c, const struct maker *m)
@@ -490,13 +523,13 @@ const char *broken_rule(const struct call *c, const struct maker *m)
         return "all five numbers of the answer are written";
     number = c->answer[0];
     if (!number_is_known(c, number))
-        return "the number is one of the table, and of this entry and mode";
+        return "the number is one of the table, and of this entry, mode and edition";
     if (!inputs_kept(c, m))
         return "text and tokens are only read";
     if (door.number != 0)
         return broken_at_door(c, door);
     if (leaves_all(number))
-        return "30, 31, 35 and 36 are given only where their rules say so";
+        return "30, 31, 35, 36 and 38 are given only where their rules say so";
     if (!kept_is_right(c, door.kept_count))
         return "the kept list has the numbers of the kept tokens, its words beyond are untouched";
     if (!tables_are_defined(c))

@@ -21,7 +21,7 @@
 #include "memcheck.h"
 #include "sizing.h"
 
-enum { NUMBERS = 37 };
+enum { NUMBERS = 39 };
 
 struct search {
     uint64_t seed, number;
@@ -49,8 +49,8 @@ static void print_words(const char *name, const uint32_t *words, size_t length)
 static void print_case(const struct search *s, const struct call *c)
 {
     const struct maker *m = &s->maker;
-    fprintf(stderr, "  %s, family %s, mode %" PRIu32 ", start %" PRIu64 ", text of %zu bytes:",
-            m->body ? "body" : "file", m->family, m->mode, m->start, m->text_len);
+    fprintf(stderr, "  %s, family %s, mode %" PRIu32 ", edition %" PRIu32 ", start %" PRIu64 ", text of %zu bytes:",
+            m->body ? "body" : "file", m->family, m->mode, m->edition, m->start, m->text_len);
     for (size_t i = 0; i < m->text_len && i < 2000; i++)
         fprintf(stderr, " %02x", m->text[i]);
     fprintf(stderr, "\n");
@@ -118,7 +118,7 @@ static unsigned wanted_number(const uint64_t *roomy, struct need n, const struct
 static uint64_t wanted_cursor(const uint64_t *roomy, struct need n, const struct call *c)
 {
     switch (c->answer[0]) {
-    case 30: case 31: case 35: case 36: return door_of(c).cursor;
+    case 30: case 31: case 35: case 36: case 38: return door_of(c).cursor;
     case 32: return n.definitions;
     case 33: return n.statements;
     case 34: return n.arguments;
@@ -159,7 +159,7 @@ static bool is_same(const uint32_t *a, const uint32_t *b, size_t words)
     return words == 0 || memcmp(a, b, words * sizeof *a) == 0;
 }
 
-/* After 30, 31, 35 and 36 the tables hold what was there before, which differs from call to call. */
+/* After 30, 31, 35, 36 and 38 the tables hold what was there before, which differs from call to call. */
 static void test_again(const struct search *s, const struct call *c)
 {
     const uint32_t *t = s->tables;

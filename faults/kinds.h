@@ -15,6 +15,9 @@ enum { MOST_TEXT = 1048576, MOST_TOKENS = 65536, TOKEN = 4, DEFINITION = 12, STA
 /* The modes there are. */
 enum { PLAIN_MODE, STRICT_MODE };
 
+/* The editions of the plain length there are. */
+enum { FIRST_EDITION = 1, SECOND_EDITION };
+
 #define NONE 4294967295u
 
 #endif

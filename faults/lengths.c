@@ -15,6 +15,9 @@
 
 static const size_t WRAP = (size_t)1 << 32;
 
+/* What a list's length is tested for is the same in both editions. */
+enum { EDITION = 1 };
+
 /* `{ }` and Eof: accepted as a body, refused with 1 as a file. */
 static const uint8_t TEXT[] = "{}";
 static const uint32_t TOKENS[] = {29, 0, 1, 0, 30, 1, 2, 0, 0, 2, 2, 0};
@@ -41,7 +44,7 @@ static int long_text(uint32_t mode, uint8_t *text, size_t length)
 {
     uint64_t body[5], file[5];
     uint32_t empty[1];
-    simmerotter_read_body(mode, text, length, TOKENS, WORDS, 0, kept, KEPT, empty, 0, empty, 0, body);
+    simmerotter_read_body(mode, EDITION, text, length, TOKENS, WORDS, 0, kept, KEPT, empty, 0, empty, 0, body);
     simmerotter_read_file(mode, text, length, TOKENS, WORDS, kept, KEPT, empty, 0, empty, 0, empty, 0, file);
     return is_answer("a long text, body", body, 30, 0) && is_answer("a long text, file", file, 30, 0);
 }
@@ -50,7 +53,7 @@ static int long_tokens(uint32_t mode, uint32_t *tokens, size_t length)
 {
     uint64_t body[5], file[5];
     uint32_t empty[1];
-    simmerotter_read_body(mode, TEXT, 2, tokens, length, 0, kept, KEPT, empty, 0, empty, 0, body);
+    simmerotter_read_body(mode, EDITION, TEXT, 2, tokens, length, 0, kept, KEPT, empty, 0, empty, 0, body);
     simmerotter_read_file(mode, TEXT, 2, tokens, length, kept, KEPT, empty, 0, empty, 0, empty, 0, file);
     return is_answer("long tokens, body", body, 30, 0) && is_answer("long tokens, file", file, 30, 0);
 }
@@ -60,7 +63,7 @@ static int long_kept(uint32_t mode, uint32_t *list, size_t length)
 {
     uint64_t body[5], file[5];
     uint32_t empty[1];
-    simmerotter_read_body(mode, TEXT, 2, TOKENS, WORDS, 0, list, length, empty, 0, empty, 0, body);
+    simmerotter_read_body(mode, EDITION, TEXT, 2, TOKENS, WORDS, 0, list, length, empty, 0, empty, 0, body);
     simmerotter_read_file(mode, TEXT, 2, TOKENS, WORDS, list, length, empty, 0, empty, 0, empty, 0, file);
     return is_answer("a long kept list, body", body, 0, 2) && is_answer("a long kept list, file", file, 1, 0);
 }
@@ -69,7 +72,7 @@ static int far_start(uint32_t mode, size_t start)
 {
     uint64_t body[5];
     uint32_t empty[1];
-    simmerotter_read_body(mode, TEXT, 2, TOKENS, WORDS, start, kept, KEPT, empty, 0, empty, 0, body);
+    simmerotter_read_body(mode, EDITION, TEXT, 2, TOKENS, WORDS, start, kept, KEPT, empty, 0, empty, 0, body);
     return is_answer("a far start", body, 31, start);
 }
 

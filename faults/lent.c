@@ -121,8 +121,9 @@ static uint32_t *lend_words(struct lender *l, enum part part, size_t words, cons
 void lend(struct lender *l, const struct maker *m, struct sizes sizes, uint32_t stain, bool undefined,
           struct call *call)
 {
-    *call = (struct call){.body = m->body, .mode = m->mode, .start = m->start, .text_len = m->text_len,
-                          .tokens_len = m->words_len, .sizes = sizes, .stain = stain, .undefined = undefined};
+    *call = (struct call){.body = m->body, .mode = m->mode, .edition = m->edition, .start = m->start,
+                          .text_len = m->text_len, .tokens_len = m->words_len, .sizes = sizes, .stain = stain,
+                          .undefined = undefined};
     call->text = lend_input(l, TEXT, m->text, m->text_len);
     call->tokens = lend_input(l, TOKENS, m->words, m->words_len * sizeof *m->words);
     call->kept = lend_words(l, KEPT, sizes.kept, call);
@@ -135,9 +136,9 @@ void lend(struct lender *l, const struct maker *m, struct sizes sizes, uint32_t 
 void run_call(const struct call *c)
 {
     if (c->body)
-        simmerotter_read_body(c->mode, c->text, c->text_len, c->tokens, c->tokens_len, (size_t)c->start, c->kept,
-                              c->sizes.kept, c->statements, c->sizes.statements, c->arguments, c->sizes.arguments,
-                              c->answer);
+        simmerotter_read_body(c->mode, c->edition, c->text, c->text_len, c->tokens, c->tokens_len, (size_t)c->start,
+                              c->kept, c->sizes.kept, c->statements, c->sizes.statements, c->arguments,
+                              c->sizes.arguments, c->answer);
     else
         simmerotter_read_file(c->mode, c->text, c->text_len, c->tokens, c->tokens_len, c->kept, c->sizes.kept,
                               c->definitions, c->sizes.definitions, c->statements, c->sizes.statements, c->arguments,

@@ -27,7 +27,7 @@ struct lender {
 
 struct call {
     bool body;
-    uint32_t mode;
+    uint32_t mode, edition;
     uint64_t start;
     uint8_t *text;
     size_t text_len;

@@ -31,6 +31,7 @@ static const char *const STRINGS[] = {"\"s\"", "", "\"f(uint256)\"", "\"calldata
 static const char *const TYPES[] = {"address", "bool", "uint", "uint256", "int128", "bytes32", "", "uint7", "foo"};
 static const char *const BAD_LITERALS[] = {"", "0", "0x", "x1", "0X1", "1x1", "0xg", "0x1g", "0x1/", "0x1:", "0x@1",
                                            "0x`1", "0x1 ", "0x-1", "0x\xff", "00x1"};
+enum { PUSH0 = 0x5f, PUSH32 = 0x7f };
 static const uint8_t OPCODES[] = {0x00, 0x01, 0x15, 0x35, 0x52, 0x54, 0x56, 0x57, 0x5b, 0x5e, 0x5f, 0x80, 0x90, 0xfd,
                                   0xff};
 
@@ -146,6 +147,24 @@ static void put_literal(struct maker *m, uint32_t most)
     if (zeros + digits == 0)
         zeros = 1;
     put_literal_of(m, zeros, digits);
+}
+
+/* A zero of any spelling: one digit to 64. */
+static void put_zero(struct maker *m)
+{
+    static const uint8_t DIGITS[] = {1, 2, 2, 4, 64};
+    put_literal_of(m, likely(&m->chance, 70) ? ONE_OF(m, DIGITS) : 1 + below(&m->chance, 64), 0);
+}
+
+/* Zeros with one other digit among them, the last as often as any. */
+static void put_nearly_zero(struct maker *m)
+{
+    uint32_t length = 1 + below(&m->chance, 64), at = below(&m->chance, length);
+    char *own = pooled(m, 2 + length);
+    memcpy(own, "0x", 2);
+    memset(own + 2, '0', length);
+    own[2 + at] = digit(m, 1);
+    put_token(m, LITERAL, own, 2 + length, 0);
 }
 
 static void put_opcode(struct maker *m, uint32_t byte)
@@ -364,6 +383,37 @@ static void put_labelled_body(struct maker *m)
     put_groups(m, ONE_OF(m, GROUPS), true, 2);
     if (likely(&m->chance, 10))
         put_opcode(m, push_byte(m));
+    put(m, CLOSE_BRACE);
+}
+
+/* Mostly an item with a zero: by itself, behind PUSH0 or another opcode, as an operand. PUSH32 takes any literal. */
+static void put_zero_item(struct maker *m)
+{
+    switch (below(&m->chance, 8)) {
+    case 0: put_opcode(m, PUSH0); put_zero(m); break;
+    case 1: put_opcode(m, ONE_OF(m, OPCODES)); put_zero(m); break;
+    case 2: put_opcode(m, push_byte(m)); put_zero(m); break;
+    case 3: put_opcode(m, PUSH32); put_nearly_zero(m); break;
+    case 4: put_nearly_zero(m); break;
+    case 5: put_ident(m, false); break;
+    default: put_zero(m); break;
+    }
+}
+
+/* Labels that begin with a zero or not; now and then a push ends one, and has no operand. */
+static void put_zeros_body(struct maker *m)
+{
+    put(m, OPEN_BRACE);
+    for (uint32_t n = some(m); n > 0; n--)
+        put_zero_item(m);
+    for (uint32_t n = below(&m->chance, 3); n > 0; n--) {
+        put_kind(m, LABEL);
+        put(m, COLON);
+        for (uint32_t items = some(m); items > 0; items--)
+            put_zero_item(m);
+        if (likely(&m->chance, 5))
+            put_opcode(m, push_byte(m));
+    }
     put(m, CLOSE_BRACE);
 }
 
@@ -787,6 +837,17 @@ static void pushes(struct maker *m)
     lay_out_small(m);
 }
 
+/* For editions: zeros, and what is nearly zero, wherever a literal may stand. */
+static void zeros(struct maker *m)
+{
+    m->family = "zeros";
+    m->body = true;
+    put_zeros_body(m);
+    if (likely(&m->chance, 20))
+        mutate(m);
+    lay_out_small(m);
+}
+
 static void repeated_names(struct maker *m)
 {
     m->family = "repeated names";
@@ -916,6 +977,14 @@ static void put_label_pushes(struct maker *m, size_t times)
     put(m, CLOSE_BRACE);
 }
 
+static void put_zeros(struct maker *m, size_t times)
+{
+    put(m, OPEN_BRACE);
+    while (times-- > 0)
+        put_own(m, LITERAL, "0x0");
+    put(m, CLOSE_BRACE);
+}
+
 static void put_big_table(struct maker *m, uint32_t kind, size_t entries)
 {
     put(m, DEFINE);
@@ -955,7 +1024,7 @@ static void large(struct maker *m, uint64_t shape)
     m->family = "large";
     m->slip = 0;
     m->body = true;
-    switch (shape % 23) {
+    switch (shape % 24) {
     case 0: put_braced(m, 0, OPCODE); text = MOST_TEXT; break;
     case 1: put_braced(m, 0, OPCODE); text = MOST_TEXT + 1; break;
     case 2: put_long_ident(m, MOST_TEXT - 2); break;
@@ -978,6 +1047,7 @@ static void large(struct maker *m, uint64_t shape)
     case 19: put_labels(m, 32766, true); break;
     case 20: put_macros(m, 1000, 4); m->body = false; break;
     case 21: put_label_pushes(m, 32765); break;
+    case 22: put_zeros(m, MOST_TOKENS - 3); break;
     default: put_times(m, MOST_TOKENS, WHITESPACE); m->body = false; break;
     }
     lay_out(m, "");
@@ -1000,9 +1070,11 @@ static void small(struct maker *m)
         mutated_tokens(m);
     else if (roll < 78)
         mutated_words(m);
-    else if (roll < 82)
+    else if (roll < 81)
         pushes(m);
-    else if (roll < 87)
+    else if (roll < 84)
+        zeros(m);
+    else if (roll < 88)
         repeated_names(m);
     else if (roll < 95)
         labels(m);
@@ -1018,6 +1090,14 @@ static uint32_t any_mode(struct maker *m)
     return roll < 55 ? STRICT_MODE : roll < 96 ? PLAIN_MODE : ONE_OF(m, OTHER);
 }
 
+/* Mostly one of the two editions there are. */
+static uint32_t any_edition(struct maker *m)
+{
+    static const uint32_t OTHER[] = {0, 3, 4, 255, 256, 257, 258, 65537, 65538, 2147483649u, 2147483650u, 4294967295u};
+    uint32_t roll = below(&m->chance, 100);
+    return roll < 55 ? SECOND_EDITION : roll < 96 ? FIRST_EDITION : ONE_OF(m, OTHER);
+}
+
 void make_case(struct maker *m, uint64_t seed, uint64_t number)
 {
     m->chance = stream(seed, number);
@@ -1029,6 +1109,7 @@ void make_case(struct maker *m, uint64_t seed, uint64_t number)
     m->slip = 2;
     m->sound = false;
     m->mode = any_mode(m);
+    m->edition = any_edition(m);
     if (number % LARGE_EVERY == LARGE_AT)
         large(m, number / LARGE_EVERY + 9 * seed);
     else

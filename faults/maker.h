@@ -1,4 +1,4 @@
-/* Makes cases: a text, a word list, the entry to be called, its mode and its start. */
+/* Makes cases: a text, a word list, the entry to be called, its mode and, of a body, its edition and its start. */
 #ifndef MAKER_H
 #define MAKER_H
 
@@ -23,7 +23,7 @@ struct maker {
     /* The case. */
     const char *family;
     bool body;
-    uint32_t mode;
+    uint32_t mode, edition;
     uint64_t start;
     uint8_t *text;
     size_t text_len;

@@ -1,6 +1,7 @@
 /*
  * Faults planted on purpose, to see that the search finds them. The linker puts these functions between the driver
- * and the library (--wrap); SLIP in the environment says which fault is added after the true call, or in its mode.
+ * and the library (--wrap); SLIP in the environment says which fault is added after the true call, or in its mode or
+ * edition.
  */
 #include <sched.h>
 #include <stdlib.h>
@@ -13,17 +14,17 @@ void __real_simmerotter_read_file(uint32_t mode, const uint8_t *text, size_t tex
                                   size_t tokens_len, uint32_t *kept, size_t kept_len, uint32_t *definitions,
                                   size_t definitions_len, uint32_t *statements, size_t statements_len,
                                   uint32_t *arguments, size_t arguments_len, uint64_t answer[5]);
-void __real_simmerotter_read_body(uint32_t mode, const uint8_t *text, size_t text_len, const uint32_t *tokens,
-                                  size_t tokens_len, size_t start, uint32_t *kept, size_t kept_len,
-                                  uint32_t *statements, size_t statements_len, uint32_t *arguments,
+void __real_simmerotter_read_body(uint32_t mode, uint32_t edition, const uint8_t *text, size_t text_len,
+                                  const uint32_t *tokens, size_t tokens_len, size_t start, uint32_t *kept,
+                                  size_t kept_len, uint32_t *statements, size_t statements_len, uint32_t *arguments,
                                   size_t arguments_len, uint64_t answer[5]);
 void __wrap_simmerotter_read_file(uint32_t mode, const uint8_t *text, size_t text_len, const uint32_t *tokens,
                                   size_t tokens_len, uint32_t *kept, size_t kept_len, uint32_t *definitions,
                                   size_t definitions_len, uint32_t *statements, size_t statements_len,
                                   uint32_t *arguments, size_t arguments_len, uint64_t answer[5]);
-void __wrap_simmerotter_read_body(uint32_t mode, const uint8_t *text, size_t text_len, const uint32_t *tokens,
-                                  size_t tokens_len, size_t start, uint32_t *kept, size_t kept_len,
-                                  uint32_t *statements, size_t statements_len, uint32_t *arguments,
+void __wrap_simmerotter_read_body(uint32_t mode, uint32_t edition, const uint8_t *text, size_t text_len,
+                                  const uint32_t *tokens, size_t tokens_len, size_t start, uint32_t *kept,
+                                  size_t kept_len, uint32_t *statements, size_t statements_len, uint32_t *arguments,
                                   size_t arguments_len, uint64_t answer[5]);
 
 /* Accesses that the compiler may not leave out. */
@@ -49,7 +50,7 @@ static void use(uint32_t word)
 
 static int passed_door(const uint64_t *answer)
 {
-    return answer[0] != 30 && answer[0] != 31 && answer[0] != 35 && answer[0] != 36;
+    return answer[0] != 30 && answer[0] != 31 && answer[0] != 35 && answer[0] != 36 && answer[0] != 38;
 }
 
 static int chosen_slip(void)
@@ -62,6 +63,13 @@ static int chosen_slip(void)
 static uint32_t mode_read(uint32_t mode)
 {
     return chosen_slip() == 20 && mode > 1 ? 0 : mode;
+}
+
+/* What a library would do that takes editions it doesn't know for edition 1, or one that takes edition 2 for it. */
+static uint32_t edition_read(uint32_t edition)
+{
+    int chosen = chosen_slip();
+    return (chosen == 21 && edition != 2) || (chosen == 22 && edition == 2) ? 1 : edition;
 }
 
 /* What mode 1 refuses and mode 0 doesn't is overlooked: the call is made again in mode 0. */
@@ -110,15 +118,15 @@ void __wrap_simmerotter_read_file(uint32_t mode, const uint8_t *text, size_t tex
     slip(text, text_len, tokens, tokens_len, kept, kept_len, definitions, definitions_len, answer);
 }
 
-void __wrap_simmerotter_read_body(uint32_t mode, const uint8_t *text, size_t text_len, const uint32_t *tokens,
-                                  size_t tokens_len, size_t start, uint32_t *kept, size_t kept_len,
-                                  uint32_t *statements, size_t statements_len, uint32_t *arguments,
+void __wrap_simmerotter_read_body(uint32_t mode, uint32_t edition, const uint8_t *text, size_t text_len,
+                                  const uint32_t *tokens, size_t tokens_len, size_t start, uint32_t *kept,
+                                  size_t kept_len, uint32_t *statements, size_t statements_len, uint32_t *arguments,
                                   size_t arguments_len, uint64_t answer[5])
 {
-    __real_simmerotter_read_body(mode_read(mode), text, text_len, tokens, tokens_len, start, kept, kept_len,
-                                 statements, statements_len, arguments, arguments_len, answer);
+    __real_simmerotter_read_body(mode_read(mode), edition_read(edition), text, text_len, tokens, tokens_len, start, kept,
+                                 kept_len, statements, statements_len, arguments, arguments_len, answer);
     if (overlooks(answer))
-        __real_simmerotter_read_body(0, text, text_len, tokens, tokens_len, start, kept, kept_len, statements,
+        __real_simmerotter_read_body(0, edition, text, text_len, tokens, tokens_len, start, kept, kept_len, statements,
                                      statements_len, arguments, arguments_len, answer);
     slip(text, text_len, tokens, tokens_len, kept, kept_len, arguments, arguments_len, answer);
 }

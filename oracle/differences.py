@@ -17,6 +17,8 @@ HOLDS_TEXT = (rules.COMMENT, rules.IDENT, rules.LABEL, rules.STR, rules.BUILTIN,
 TYPE = re.compile(r"(address|bool|string|bytes|uint|int)|(uint|int|bytes)([0-9]+)")
 ODD = {"X_InvalidUint256": "uint", "X_InvalidInt": "int", "X_InvalidBytes": "bytes"}
 DECORATED = ("PANIC", "X_Decorator", "X_InvalidDecoratorFlag", "X_InvalidDecoratorFlagArg")
+# What the driver's door answers by itself, before it is asked whether the Rust can read the list.
+AT_DOOR = (rules.NO_SUCH_MODE, rules.NO_SUCH_EDITION, rules.NOT_WELL_FORMED, rules.KEPT_SHORT, rules.NO_SUCH_START)
 
 
 class Look:
@@ -24,7 +26,7 @@ class Look:
 
     def __init__(self, case, by_rules, by_rust):
         self.case = rules.read_case(case.encode())
-        self.mode, self.text, self.words = self.case[1], *self.case[4:]
+        _, self.mode, _, _, _, self.text, self.words = self.case
         self.tokens = [self.words[i:i + 4] for i in range(0, len(self.words) - 3, 4)]
         self.kept = [t for t in self.tokens if t[0] not in (rules.WHITESPACE, rules.COMMENT)]
         self.see(by_rules)
@@ -126,7 +128,7 @@ def refuses_type(look):
 
 def cannot_hold(look):
     """A token that the Rust's tokens can't hold: text that is not UTF-8, or no type's text."""
-    if look.rust != "X_CannotHold" or look.number in (30, 31, 35):
+    if look.rust != "X_CannotHold" or look.number in AT_DOOR:
         return False
     return any(look.word(t) is None or (t[0] == rules.PRIMITIVE and not TYPE.fullmatch(look.word(t)))
                for t in look.tokens if t[0] in HOLDS_TEXT)
@@ -134,7 +136,7 @@ def cannot_hold(look):
 
 def knows_no_mode(look):
     """Strict reading, behind the driver's door: the Rust has no such thing."""
-    return look.rust == "X_Strict" and look.mode == rules.STRICT and look.number not in (30, 31, 35)
+    return look.rust == "X_Strict" and look.mode == rules.STRICT and look.number not in AT_DOOR
 
 
 def no_end(look):

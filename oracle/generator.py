@@ -9,6 +9,8 @@ Families:
   pushes      every push size with every literal size, leading zeros too
   labels      what strict reading asks: labels whose names stand again or nearly, and pushes with and without fitting
               literals, everywhere in a label; refused before and behind that
+  zeros       what editions ask: bodies with zeros of every spelling and with what is nearly zero, as operands, behind
+              PUSH0, first in a label, by themselves
   illformed   lists that are not well formed, in every way of document 01, and near misses
   tables      tables exactly full, a word or a record short, ragged, empty; the kept list one short
   starts      bodies read from anywhere
@@ -16,8 +18,10 @@ Families:
               are not UTF-8
   limits      the largest texts and lists, and one more (few cases, long lines)
 
-Modes: `0`, the only one that the Rust knows; `1`; or `mixed`, mostly 1, and now and then one that there is none. The
-lists and what is lent are the same in all of them, but that limits has every list in mode 1 and in mode 0 if mixed.
+Modes: `0`, the only one that the Rust knows; `1`; or `mixed`, mostly 1, and now and then one that there is none.
+Editions, of bodies: `1`, `2`, or `mixed`, mostly 2, and now and then one that there is none. The lists and what is lent
+are the same in all modes and editions, but that limits has every list in mode 1 and in mode 0 if modes are mixed, and
+bodies in edition 2, those with literals also in edition 1, if editions are.
 """
 import itertools
 import random
@@ -54,17 +58,23 @@ CLOSE = [
 MODES = ("0", "1", "mixed")
 # Modes that there are none.
 NO_MODES = [2, 3, 16, 255, 256, 257, 65536, 65537, 2147483648, 2147483649, 4294967294, 4294967295]
+EDITIONS = ("1", "2", "mixed")
+# Editions that there are none.
+NO_EDITIONS = [0, 0, 3, 3, 4, 255, 256, 257, 258, 65537, 65538, 2147483649, 2147483650, 4294967294, 4294967295]
+PUSH0, PUSH32 = 0x5f, 0x7f
 
 
 class Maker:
     """Makes token lists with one source of chance."""
 
-    def __init__(self, seed, modes="0"):
+    def __init__(self, seed, modes="0", editions="1"):
         self.r = random.Random(seed)
         self.serial = 0
-        # Modes have a source of their own, so that the lists are the same whatever the modes.
+        # Modes and editions have each a source of their own, so that the lists are the same whatever they are.
         self.modes = modes
         self.of_modes = random.Random("%s, modes" % seed)
+        self.editions = editions
+        self.of_editions = random.Random("%s, editions" % seed)
 
     def mode(self):
         """The mode of the next case."""
@@ -72,6 +82,15 @@ class Maker:
             return int(self.modes)
         roll = self.of_modes.random()
         return 1 if roll < 0.65 else 0 if roll < 0.96 else self.of_modes.choice(NO_MODES)
+
+    def edition(self, entry):
+        """The edition of the next case; a file has none."""
+        if entry == "F":
+            return None
+        if self.editions != "mixed":
+            return int(self.editions)
+        roll = self.of_editions.random()
+        return 2 if roll < 0.65 else 1 if roll < 0.95 else self.of_editions.choice(NO_EDITIONS)
 
     # Tokens.
 
@@ -260,6 +279,41 @@ class Maker:
         return self.some([self.literal()], [self.opcode()], [self.ident()],
                          [self.opcode(byte), self.literal(byte - 0x5f)])
 
+    # Bodies for editions.
+
+    def zero(self):
+        """A zero, of one digit to 64."""
+        return self.literal_of(0, self.r.choice([1, 2, 2, 4, 64, self.r.randint(1, 64)]))
+
+    def nearly_zero(self):
+        """Zeros with one other digit among them, anywhere."""
+        digits = bytearray(b"0" * self.r.choice([1, 2, 4, 64, self.r.randint(1, 64)]))
+        digits[self.r.randrange(len(digits))] = self.r.choice(b"123456789abcdefABCDEF")
+        return rules.LITERAL, b"0x" + bytes(digits), 0
+
+    def zero_item(self):
+        """An item with a zero, mostly. PUSH32 takes what is nearly zero, whatever it is."""
+        return self.some([self.zero()], [self.zero()], [self.zero()], [self.opcode(PUSH0), self.zero()],
+                         [self.opcode(self.push()), self.zero()], [self.opcode(self.push()), self.zero()],
+                         [self.nearly_zero()], [self.opcode(PUSH32), self.nearly_zero()], [self.opcode(), self.zero()],
+                         [self.ident()])
+
+    def zeros_body(self):
+        """Statements that have a length, most of them zeros. Now and then an item has none, or a label ends in a push,
+        of which the next one's first literal is no operand."""
+        out = [T("{")]
+        for _ in range(self.r.choice([0, 1, 1, 2, 3, 5])):
+            out += self.zero_item()
+        for label in self.labels(self.r.choice([0, 0, 1, 1, 2, 3])):
+            out += [label, T(":")]
+            for _ in range(self.r.choice([0, 1, 1, 2, 3])):
+                out += self.zero_item()
+            if self.likely(0.06):
+                out.append(self.opcode(self.push()))
+        if self.likely(0.06):
+            out += self.item(in_label=True)
+        return out + [T("}")]
+
     # Bodies for strict reading.
 
     def label_push(self):
@@ -423,8 +477,8 @@ class Maker:
         return [count + self.some(0, 0, 0, 1, 4)] + room
 
     def case(self, entry, start, room, text, words):
-        """The case's line, in a mode of those that are asked for."""
-        return notation.case_line(entry, self.mode(), start, room, text, words)
+        """The case's line, in a mode and an edition of those that are asked for."""
+        return notation.case_line(entry, self.mode(), self.edition(entry), start, room, text, words)
 
     def line(self, entry, start, tokens, spaced=True):
         text, words = self.laid_out(tokens, spaced)
@@ -569,6 +623,17 @@ def labelled_file(m, names):
         out += [T("#define"), T(m.r.choice(["macro", "fn", "test"])), name]
         out += [OPEN_PAREN, CLOSE_PAREN, T("=")] + m.labelled_body(names)
     return out
+
+
+def zeros(m, seed, count):
+    for _ in range(count):
+        tokens = m.zeros_body()
+        if m.likely(0.1):
+            mutate(m, tokens)
+        # What stands before and behind the body counts nothing.
+        before = [m.zero()] if m.likely(0.1) else []
+        after = [m.zero()] if m.likely(0.1) else []
+        yield m.line("B", len(before), before + tokens + after)
 
 
 BAD_LITERALS = [b"", b"0", b"0x", b"x1", b"0X1", b"1x1", b"0xg", b"0x1g", b"0xG1", b"0x1/", b"0x1:", b"0x@1",
@@ -782,26 +847,44 @@ def limits(m, seed, count):
         # The labels of a macro are forgotten in the next: as many macros of four labels as fit, the same four in each.
         lambda: of("F", [w for i in range(4095) for w in
                          [T("#define"), T("fn"), T("m%04d" % i), OPEN_PAREN, CLOSE_PAREN, T("=")] + labelled(range(4))]),
+        # As many zeros as there can be, the shortest and the longest.
+        lambda: of("B", [T("{")] + [T("0x0")] * 65533 + [T("}")]),
+        lambda: of("B", [T("{")] + [T("0x" + "0" * 64)] * 15887 + [T("}")]),
     ]
-    modes = (1, 0) if m.modes == "mixed" else (int(m.modes),)
-    for number, (make, mode) in enumerate(itertools.product(made, modes)):
-        if number == count:
-            return
+    left = count
+    for make in made:
         entry, room, text, words = make()
-        yield notation.case_line(entry, mode, 0, room, text, words)
+        for mode, edition in itertools.product(of_limits(m.modes, (1, 0)), editions_of_limits(m, entry, words)):
+            if left == 0:
+                return
+            left -= 1
+            yield notation.case_line(entry, mode, edition, 0, room, text, words)
+
+
+def of_limits(chosen, mixed):
+    """The modes or editions that limits has a list in."""
+    return mixed if chosen == "mixed" else (int(chosen),)
+
+
+def editions_of_limits(m, entry, words):
+    if entry == "F":
+        return (None,)
+    # Without a literal the editions are alike, and these lists take long.
+    return of_limits(m.editions, (2, 1) if rules.LITERAL in words[0::4] else (2,))
 
 
 FAMILIES = {"bodies": bodies, "files": files, "mutations": mutations, "exhaustive": exhaustive, "pushes": pushes,
-            "labels": labels, "illformed": illformed, "tables": tables, "starts": starts, "odd": odd, "limits": limits}
+            "labels": labels, "zeros": zeros, "illformed": illformed, "tables": tables, "starts": starts, "odd": odd,
+            "limits": limits}
 
 
-def cases(family, seed, count, modes="0"):
+def cases(family, seed, count, modes="0", editions="1"):
     """Case lines, one after the other. `all` shares the count among the families but limits."""
     if family == "all":
         names = [name for name in FAMILIES if name != "limits"]
         for i, name in enumerate(names):
             share = count // len(names) + (1 if i < count % len(names) else 0)
-            yield from cases(name, seed, share, modes)
+            yield from cases(name, seed, share, modes, editions)
         return
     # A string as seed is hashed the same way everywhere.
-    yield from FAMILIES[family](Maker("%s %d" % (family, seed), modes), seed, count)
+    yield from FAMILIES[family](Maker("%s %d" % (family, seed), modes, editions), seed, count)

@@ -100,8 +100,18 @@ def lay_out(list_of_tokens, between=b" "):
     return bytes(text), words
 
 
-def case_line(entry, mode, start, lengths, text, words):
-    return " ".join([entry, str(mode), str(start)] + [str(n) for n in lengths]
+def edition_word(edition):
+    """The edition as a case has it; a file has none."""
+    return "-" if edition is None else str(edition)
+
+
+def edition_of(word):
+    """The edition that such a word is."""
+    return None if word == "-" else int(word)
+
+
+def case_line(entry, mode, edition, start, lengths, text, words):
+    return " ".join([entry, str(mode), edition_word(edition), str(start)] + [str(n) for n in lengths]
                     + [text.hex() or "-", ",".join(map(str, words)) or "-"])
 
 
@@ -142,5 +152,5 @@ def shown_case(line):
     case = rules.read_case(line.encode("latin-1"))
     if isinstance(case, str):
         return line
-    entry, mode, start, lengths, text, words = case
-    return "%s %d %d lent %s | %s" % (entry, mode, start, lengths, shown(text, words))
+    entry, mode, edition, start, lengths, text, words = case
+    return "%s %d %s %d lent %s | %s" % (entry, mode, edition_word(edition), start, lengths, shown(text, words))

@@ -3,7 +3,7 @@
 
 Cases on standard input, answers on standard output, a line each, in the format of docs/CASES.md.
 Where the papers are brief it follows docs/DECISIONS.md, and it shares nothing with the Rust: it is the other
-side of the comparison. Every answer is given in full, refusals 30 to 36 and all lent contents too.
+side of the comparison. Every answer is given in full, refusals 30 to 38 and all lent contents too.
 
   rules.py < cases > answers
 """
@@ -30,10 +30,13 @@ PrimitiveType""".split()
  INVALID_IN_LABEL, TYPE_AS_NAME, INVALID_ARGS, INVALID_SINGLE_ARG, INVALID_MACRO_ARGS,
  INVALID_TABLE_TOKEN, INVALID_CONSTANT, INVALID_ARG_CALL) = range(1, 14)
 DUPLICATE, POUND_AT_TOP, REPEATED_LABEL = 20, 21, 22
-NOT_WELL_FORMED, NO_SUCH_START, KEPT_SHORT, NO_SUCH_MODE = 30, 31, 35, 36
+NOT_WELL_FORMED, NO_SUCH_START, KEPT_SHORT, NO_SUCH_MODE, NO_SUCH_EDITION = 30, 31, 35, 36, 38
 
 # The modes of a call.
 PLAIN, STRICT = 0, 1
+
+# The editions of the plain length.
+FIRST, SECOND = 1, 2
 
 RESERVED = {b"address", b"bool", b"string", b"bytes", b"uint", b"int"}
 for m in range(1, 33):
@@ -95,9 +98,22 @@ def kept_numbers(words):
 
 # Literals and pushes.
 
+def value(own):
+    """The literal's number, whatever its digits."""
+    return int(own[2:], 16)
+
+
 def significant_bytes(own):
     """How many bytes the literal's number takes; zero takes one."""
-    return max(1, (int(own[2:], 16).bit_length() + 7) // 8)
+    return max(1, (value(own).bit_length() + 7) // 8)
+
+
+def pushing_bytes(own, edition):
+    """What a literal that is no push's operand comes to: a push and its bytes; in edition 2 (request [8]) a zero has
+    PUSH0, a push without any."""
+    if edition == SECOND and value(own) == 0:
+        return 1
+    return 1 + significant_bytes(own)
 
 
 def pushed_bytes(byte):
@@ -225,7 +241,7 @@ class Reading:
         self.statements.append((kind, first, self.place, own + 1, 0, arguments_before,
                                 so_far - arguments_before, place))
 
-    def plain_length(self):
+    def plain_length(self, edition):
         """Of the body that was read, by its statements' records: the macro part's and each label's."""
         parts = [[]]
         for record in self.statements:
@@ -233,16 +249,16 @@ class Reading:
                 parts.append([])
             else:
                 parts[-1].append(record)
-        lengths = [self.part_length(part) for part in parts]
+        lengths = [self.part_length(part, edition) for part in parts]
         return NONE if NONE in lengths else len(parts) - 1 + sum(lengths)
 
-    def part_length(self, part):
+    def part_length(self, part, edition):
         """The bytes of statements that are no labels; request [3]: a value push has its operand directly behind it."""
         length = 0
         rest = iter(part)
         for kind, *_, place in rest:
             if kind == 1:
-                length += 1 + significant_bytes(self.texts[place])
+                length += pushing_bytes(self.texts[place], edition)
             elif kind == 2:
                 n = pushed_bytes(self.extras[place])
                 if n > 0:
@@ -482,34 +498,40 @@ def read(entry, mode, start, text, words, kept, reading=Reading):
 # Cases and answers.
 
 NUMBER = rb"([0-9]{1,10})"
-CASE = re.compile(rb"([FB]) " + rb" ".join([NUMBER] * 6)
+CASE = re.compile(rb"([FB]) " + NUMBER + rb" (-|[0-9]{1,10}) " + rb" ".join([NUMBER] * 5)
                   + rb" (-|(?:[0-9a-fA-F]{2})+) (-|[0-9]{1,10}(?:,[0-9]{1,10})*)")
 
 
 def read_case(line):
-    """(entry, mode, start, four lengths, text, words) of a line, or the answer that says why not."""
+    """(entry, mode, edition, start, four lengths, text, words) of a line, or the answer that says why not. A file has
+    no edition: None."""
     found = CASE.fullmatch(line)
     if found is None:
         return "X_NotACase"
     entry = found.group(1).decode()
-    mode, start, *lengths = [int(found.group(i)) for i in range(2, 8)]
-    text, words = found.group(8), found.group(9)
+    mode, start, *lengths = [int(found.group(i)) for i in (2, 4, 5, 6, 7, 8)]
+    edition = None if found.group(3) == b"-" else int(found.group(3))
+    text, words = found.group(9), found.group(10)
     text = b"" if text == b"-" else bytes.fromhex(text.decode())
     words = [] if words == b"-" else [int(w) for w in words.split(b",")]
-    if max([mode, start] + lengths + words) > NONE:
+    if max([mode, edition or 0, start] + lengths + words) > NONE:
+        return "X_NotACase"
+    if (entry == "F") != (edition is None):
         return "X_NotACase"
     if (entry == "F" and start != 0) or (entry == "B" and lengths[1] != 0):
         return "X_NotACase"
     if max(lengths + [len(text), len(words)]) > LARGEST:
         return "X_TooLarge"
-    return entry, mode, start, lengths, text, words
+    return entry, mode, edition, start, lengths, text, words
 
 
-def answer(entry, mode, start, lengths, text, words, reading=Reading):
+def answer(entry, mode, edition, start, lengths, text, words, reading=Reading):
     """The five numbers and the four lent lists after the call."""
     untouched = [[FILL] * n for n in lengths]
     if mode not in (PLAIN, STRICT):
         return (NO_SUCH_MODE, 0, 0, 0, 0), untouched
+    if entry == "B" and edition not in (FIRST, SECOND):
+        return (NO_SUCH_EDITION, 0, 0, 0, 0), untouched
     bad = first_bad(text, words)
     if bad is not None:
         return (NOT_WELL_FORMED, bad, 0, 0, 0), untouched
@@ -533,7 +555,7 @@ def answer(entry, mode, start, lengths, text, words, reading=Reading):
         lists[i][:len(flat)] = flat
     counts = [len(records) for _, _, records in tables]
     if entry == "B":
-        return (0, found.place, counts[1], counts[2], found.plain_length()), lists
+        return (0, found.place, counts[1], counts[2], found.plain_length(edition)), lists
     return (0, found.place, *counts), lists
 
 

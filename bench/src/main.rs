@@ -1,11 +1,12 @@
 //! The proved library against the Rust, on the same token lists, in one run.
 //!
-//!     bench            ratios at 60,000 tokens, then growth from 1,000 to 64,000
-//!     bench --names    the test for repeated names alone: microseconds a file, by the number of macros
-//!     bench --strict   mode 1 against mode 0 on the same lists, and how it grows with the labels
-//!     bench --quick    short lists and few rounds: whether all of it runs, not figures
+//!     bench              ratios at 60,000 tokens, then growth from 1,000 to 64,000
+//!     bench --names      the test for repeated names alone: microseconds a file, by the number of macros
+//!     bench --strict     mode 1 against mode 0 on the same lists, and how it grows with the labels
+//!     bench --editions   edition 2 against edition 1 on the same bodies
+//!     bench --quick      short lists and few rounds: whether all of it runs, not figures
 //!
-//! What is timed: on one side a call of `simmerotter_read_file`, for a body of `simmerotter_read_body`, with tables of exactly the need, which it zeroes itself, in mode 0; on the other `Parser::new(list, None)` and
+//! What is timed: on one side a call of `simmerotter_read_file`, for a body of `simmerotter_read_body`, with tables of exactly the need, which it zeroes itself, in mode 0 and edition 1; on the other `Parser::new(list, None)` and
 //! `parse()` or `parse_body()`, whose list was cloned before, once without and once with the freeing of the list and of what was read: the library has nothing to free. Beside them a call
 //! that makes its own room (`Room`), and a bare pass that adds up the token list's words.
 
@@ -17,13 +18,23 @@ mod tokens;
 
 use huff_parser::Parser;
 use huff_utils::token::Token;
-use shapes::{List, Shape, LABELLED, SHAPES};
+use shapes::{List, Shape, BODIES, LABELLED, SHAPES};
 use simmerotter::{raw, Room, NONE};
 use timing::{black_box, sample, spread, Spread};
 
-/// The modes of a call: 0 reads as the Rust does, 1 strictly.
-const PLAIN: u32 = 0;
-const STRICT: u32 = 1;
+/// The numbers that say how a call reads: its mode, and the edition of a body's plain length, which a file call doesn't take.
+#[derive(Clone, Copy)]
+struct Way {
+    mode: u32,
+    edition: u32,
+}
+
+/// As the Rust reads.
+const PLAIN: Way = Way { mode: 0, edition: 1 };
+/// Strictly.
+const STRICT: Way = Way { mode: 1, ..PLAIN };
+/// Where one byte pushes a zero.
+const SHORT_ZEROS: Way = Way { edition: 2, ..PLAIN };
 
 /// The lent tables, each exactly as long as a list needs.
 struct Tables {
@@ -51,9 +62,10 @@ impl Tables {
         }
     }
 
-    fn read(&mut self, mode: u32, list: &List) -> [u64; 5] {
+    fn read(&mut self, way: Way, list: &List) -> [u64; 5] {
+        let Way { mode, edition } = way;
         if list.is_body {
-            return raw::read_body(mode, &list.text, &list.words, 0, &mut self.kept, &mut self.statements, &mut self.arguments);
+            return raw::read_body(mode, edition, &list.text, &list.words, 0, &mut self.kept, &mut self.statements, &mut self.arguments);
         }
         raw::read_file(mode, &list.text, &list.words, &mut self.kept, &mut self.definitions, &mut self.statements, &mut self.arguments)
     }
@@ -195,50 +207,68 @@ fn growth(pace: &Pace) {
     });
 }
 
-/// Nanoseconds a token in mode 0 and in mode 1, and the second by the first.
-struct Modes {
+/// Nanoseconds a token as the Rust reads and in another way, and the second by the first.
+struct Ways {
     plain: Spread,
-    strict: Spread,
+    other: Spread,
     ratio: Spread,
 }
 
-/// A sample of each mode a round, over the same tables.
-fn measure_modes(list: &List, round: usize, rounds: usize) -> Modes {
+/// Another way reads a list as the first one does: the same answer, but for the length, its last number, in another edition.
+fn reads_alike(tables: &mut Tables, list: &List, other: Way) -> bool {
+    let same = if other.edition == PLAIN.edition { 5 } else { 4 };
+    tables.read(PLAIN, list)[..same] == tables.read(other, list)[..same]
+}
+
+/// A sample of each way a round, over the same tables.
+fn measure_ways(list: &List, other: Way, round: usize, rounds: usize) -> Ways {
     let mut tables = Tables::exact(list);
-    assert_eq!(tables.read(STRICT, list), tables.read(PLAIN, list), "mode 1 reads the list otherwise");
+    assert!(reads_alike(&mut tables, list, other), "the list is read otherwise");
     let turns = (round / list.tokens()).max(2);
     let tokens = list.tokens() as f64;
-    let (mut plain, mut strict, mut ratio) = (vec![], vec![], vec![]);
+    let (mut plain, mut others, mut ratio) = (vec![], vec![], vec![]);
     for _ in 0..rounds {
-        let [a, b] = [PLAIN, STRICT].map(|mode| {
+        let [a, b] = [PLAIN, other].map(|way| {
             sample(turns, || {
-                black_box(tables.read(black_box(mode), black_box(list)));
+                black_box(tables.read(black_box(way), black_box(list)));
             })
         });
         plain.push(a / tokens);
-        strict.push(b / tokens);
+        others.push(b / tokens);
         ratio.push(b / a);
     }
-    Modes { plain: spread(plain), strict: spread(strict), ratio: spread(ratio) }
+    Ways { plain: spread(plain), other: spread(others), ratio: spread(ratio) }
+}
+
+/// A table of some shapes: another way against the first.
+fn against(pace: &Pace, what: &str, shapes: &[Shape], other: Way) {
+    println!("{} tokens, {} rounds; least, middle and greatest; nanoseconds a token", pace.tokens, pace.rounds);
+    println!();
+    println!("{what}");
+    println!("|---|---|---|---|");
+    for (name, make) in shapes {
+        let ways = measure_ways(&make(pace.tokens), other, pace.round, pace.rounds);
+        let Spread { least, middle, greatest } = ways.ratio;
+        println!("| {name} | {least:.2} {middle:.2} {greatest:.2} | {} | {} |", show(ways.plain), show(ways.other));
+    }
 }
 
 /// Mode 1 against mode 0 on all shapes, then growth where labels are most of a list.
 fn strict(pace: &Pace) {
-    println!("Strict reading: {} tokens, {} rounds; least, middle and greatest; nanoseconds a token", pace.tokens, pace.rounds);
-    println!();
-    println!("| Shape | Mode 1 / mode 0 | Mode 0 | Mode 1 |");
-    println!("|---|---|---|---|");
-    for (name, make) in SHAPES {
-        let modes = measure_modes(&make(pace.tokens), pace.round, pace.rounds);
-        let Spread { least, middle, greatest } = modes.ratio;
-        println!("| {name} | {least:.2} {middle:.2} {greatest:.2} | {} | {} |", show(modes.plain), show(modes.strict));
-    }
+    print!("Strict reading: ");
+    against(pace, "| Shape | Mode 1 / mode 0 | Mode 0 | Mode 1 |", &SHAPES, STRICT);
     println!();
     println!("Growth: nanoseconds a token, middle of {} rounds, mode 0 / mode 1", pace.growth_rounds);
     grown(pace, &LABELLED, &|list| {
-        let modes = measure_modes(list, pace.round, pace.growth_rounds);
-        format!("{:.1} / {:.1}", modes.plain.middle, modes.strict.middle)
+        let ways = measure_ways(list, STRICT, pace.round, pace.growth_rounds);
+        format!("{:.1} / {:.1}", ways.plain.middle, ways.other.middle)
     });
+}
+
+/// Edition 2 against edition 1 on the shapes that are bodies.
+fn editions(pace: &Pace) {
+    print!("Editions: ");
+    against(pace, "| Shape | Edition 2 / edition 1 | Edition 1 | Edition 2 |", &BODIES, SHORT_ZEROS);
 }
 
 const COUNTS: [usize; 8] = [1, 10, 100, 500, 1_000, 2_000, 4_000, 8_000];
@@ -271,10 +301,15 @@ fn main() {
     if asked("--strict") {
         return strict(&pace);
     }
+    if asked("--editions") {
+        return editions(&pace);
+    }
     ratios(&pace);
     growth(&pace);
     if asked("--quick") {
         println!();
         strict(&pace);
+        println!();
+        editions(&pace);
     }
 }

@@ -253,6 +253,18 @@ fn labels(tokens: usize) -> List {
     list.eof()
 }
 
+/// A body by itself of zeros that are no push's operand, each with an opcode behind it.
+fn zeros(tokens: usize) -> List {
+    let mut list = List::new(false);
+    list.is_body = true;
+    list.put(OPEN_BRACE, "{", 0);
+    while list.tokens() + 4 <= tokens {
+        list.literal("0x00").opcode("sload", 0x54);
+    }
+    list.close();
+    list.eof()
+}
+
 /// Macros of four labels, the same four names in each: the names of one body say nothing of the next. A list has at most 65,536 tokens, and such a macro takes at least
 /// 16, with an opcode in each label 20: so a file can have some 3,000 of them here, never 8,000.
 fn labelled_macros(tokens: usize) -> List {
@@ -285,7 +297,7 @@ pub type Shape = (&'static str, fn(usize) -> List);
 pub const SHAPES: [Shape; 9] = [
     ("many macros", many_macros),
     ("one long body", long_body),
-    ("a body call", body_call),
+    BODY_CALL,
     ("one macro of calls", calls),
     ("mixed definitions", mixed),
     ("many code tables", code_tables),
@@ -293,6 +305,11 @@ pub const SHAPES: [Shape; 9] = [
     LABELLED[0],
     LABELLED[1],
 ];
+
+const BODY_CALL: Shape = ("a body call", body_call);
+
+/// Those that a body call reads, since it alone has an edition; the last is there for that.
+pub const BODIES: [Shape; 3] = [BODY_CALL, LABELLED[0], ("a body of zeros", zeros)];
 
 /// Those whose labels are most of the work in mode 1.
 pub const LABELLED: [Shape; 2] = [("a body of labels", labels), ("macros of four labels", labelled_macros)];

@@ -1,6 +1,6 @@
 /*
- * Reads bodies and a file, and checks every number and word that the calls leave: the examples of docs/CASES.md, and what the modes
- * differ in. Every lent list has a length of its own, so that arguments in another order than the archive's would be seen.
+ * Reads bodies and a file, and checks every number and word that the calls leave: the examples of docs/CASES.md, and what modes and
+ * editions differ in. Every lent list has a length of its own, so that arguments in another order than the archive's would be seen.
  */
 #include <stdio.h>
 #include <string.h>
@@ -59,8 +59,8 @@ static void read_push(void)
     fill(kept, LENGTH(kept));
     fill(statements, LENGTH(statements));
     fill(arguments, LENGTH(arguments));
-    simmerotter_read_body(SIMMEROTTER_LENIENT, (const uint8_t *)text, strlen(text), tokens, LENGTH(tokens), 0, kept, LENGTH(kept),
-        statements, LENGTH(statements), arguments, LENGTH(arguments), answer);
+    simmerotter_read_body(SIMMEROTTER_LENIENT, SIMMEROTTER_EDITION_FIRST, (const uint8_t *)text, strlen(text), tokens,
+        LENGTH(tokens), 0, kept, LENGTH(kept), statements, LENGTH(statements), arguments, LENGTH(arguments), answer);
     expect_answer("push", answer, wanted);
     expect_words("push, kept", kept, wanted_kept, LENGTH(kept));
     expect_words("push, statements", statements, wanted_statements, LENGTH(statements));
@@ -87,8 +87,8 @@ static void read_short(void)
     fill(statements, LENGTH(statements));
     fill(arguments, LENGTH(arguments));
     fill(untouched, LENGTH(untouched));
-    simmerotter_read_body(SIMMEROTTER_LENIENT, (const uint8_t *)text, strlen(text), tokens, LENGTH(tokens), 0, kept, LENGTH(kept),
-        statements, LENGTH(statements), arguments, LENGTH(arguments), answer);
+    simmerotter_read_body(SIMMEROTTER_LENIENT, SIMMEROTTER_EDITION_FIRST, (const uint8_t *)text, strlen(text), tokens,
+        LENGTH(tokens), 0, kept, LENGTH(kept), statements, LENGTH(statements), arguments, LENGTH(arguments), answer);
     expect_answer("short", answer, wanted);
     expect_words("short, kept", kept, untouched, LENGTH(kept));
     expect_words("short, statements", statements, untouched, LENGTH(statements));
@@ -143,51 +143,60 @@ static void read_later_body(void)
     uint64_t answer[SIMMEROTTER_ANSWER_NUMBERS] = {99, 99, 99, 99, 99};
 
     fill(kept, LENGTH(kept));
-    simmerotter_read_body(SIMMEROTTER_LENIENT, (const uint8_t *)text, strlen(text), tokens, LENGTH(tokens), 1, kept, LENGTH(kept),
-        nothing_here, 0, nothing_there, 0, answer);
+    simmerotter_read_body(SIMMEROTTER_LENIENT, SIMMEROTTER_EDITION_FIRST, (const uint8_t *)text, strlen(text), tokens,
+        LENGTH(tokens), 1, kept, LENGTH(kept), nothing_here, 0, nothing_there, 0, answer);
     expect_answer("later body", answer, wanted);
     expect_words("later body, kept", kept, wanted_kept, LENGTH(kept));
 }
 
-/* { a:a: } in a mode: no push, but a label that stands twice. */
-static void read_labels(const char *what, uint32_t mode, const uint64_t *wanted, const uint32_t *wanted_kept,
+/* { 0x00 a:a: } in a mode and an edition: the modes differ in the label that stands twice, the editions in the zero. */
+static void read_zero(const char *what, uint32_t mode, uint32_t edition, const uint64_t *wanted, const uint32_t *wanted_kept,
     const uint32_t *wanted_statements)
 {
-    static const char text[] = "{ a:a: }";
+    static const char text[] = "{ 0x00 a:a: }";
     static const uint32_t tokens[] = {
-        SIMMEROTTER_KIND_OPEN_BRACE, 0, 1, 0, SIMMEROTTER_KIND_LABEL, 2, 3, 0, SIMMEROTTER_KIND_COLON, 3, 4, 0,
-        SIMMEROTTER_KIND_LABEL, 4, 5, 0, SIMMEROTTER_KIND_COLON, 5, 6, 0, SIMMEROTTER_KIND_CLOSE_BRACE, 7, 8, 0,
-        SIMMEROTTER_KIND_EOF, 8, 8, 0,
+        SIMMEROTTER_KIND_OPEN_BRACE, 0, 1, 0, SIMMEROTTER_KIND_LITERAL, 2, 6, 0, SIMMEROTTER_KIND_LABEL, 7, 8, 0,
+        SIMMEROTTER_KIND_COLON, 8, 9, 0, SIMMEROTTER_KIND_LABEL, 9, 10, 0, SIMMEROTTER_KIND_COLON, 10, 11, 0,
+        SIMMEROTTER_KIND_CLOSE_BRACE, 12, 13, 0, SIMMEROTTER_KIND_EOF, 13, 13, 0,
     };
-    uint32_t kept[7], statements[16], nothing[1];
+    uint32_t kept[8], statements[24], nothing[1];
     uint64_t answer[SIMMEROTTER_ANSWER_NUMBERS] = {99, 99, 99, 99, 99};
 
     fill(kept, LENGTH(kept));
     fill(statements, LENGTH(statements));
-    simmerotter_read_body(mode, (const uint8_t *)text, strlen(text), tokens, LENGTH(tokens), 0, kept, LENGTH(kept), statements,
-        LENGTH(statements), nothing, 0, answer);
+    simmerotter_read_body(mode, edition, (const uint8_t *)text, strlen(text), tokens, LENGTH(tokens), 0, kept, LENGTH(kept),
+        statements, LENGTH(statements), nothing, 0, answer);
     expect_answer(what, answer, wanted);
     expect_words(what, kept, wanted_kept, LENGTH(kept));
     expect_words(what, statements, wanted_statements, LENGTH(statements));
 }
 
-/* The lenient mode accepts it, the strict one refuses the later label, and a number that is no mode's changes nothing. */
-static void read_in_modes(void)
+/*
+ * The lenient mode accepts it, with a length by the edition, and the strict one refuses the later label. A number that is no mode's
+ * or no edition's changes nothing; it would be known if one were taken for the other.
+ */
+static void read_in_modes_and_editions(void)
 {
-    static const uint64_t accepted[SIMMEROTTER_ANSWER_NUMBERS] = {SIMMEROTTER_ACCEPTED, 6, 2, 0, 2};
-    static const uint64_t refused[SIMMEROTTER_ANSWER_NUMBERS] = {SIMMEROTTER_DUPLICATE_LABEL, 3, 0, 0, 0};
-    static const uint64_t unknown[SIMMEROTTER_ANSWER_NUMBERS] = {SIMMEROTTER_UNKNOWN_MODE, 0, 0, 0, 0};
-    static const uint32_t kept[7] = {0, 1, 2, 3, 4, 5, 6};
-    static const uint32_t labels[16] = {
-        SIMMEROTTER_STATEMENT_LABEL, 1, 3, 1, 0, 0, 0, 1, SIMMEROTTER_STATEMENT_LABEL, 3, 5, 2, 0, 0, 0, 3,
+    static const uint64_t first[SIMMEROTTER_ANSWER_NUMBERS] = {SIMMEROTTER_ACCEPTED, 7, 3, 0, 4};
+    static const uint64_t second[SIMMEROTTER_ANSWER_NUMBERS] = {SIMMEROTTER_ACCEPTED, 7, 3, 0, 3};
+    static const uint64_t refused[SIMMEROTTER_ANSWER_NUMBERS] = {SIMMEROTTER_DUPLICATE_LABEL, 4, 0, 0, 0};
+    static const uint64_t no_mode[SIMMEROTTER_ANSWER_NUMBERS] = {SIMMEROTTER_UNKNOWN_MODE, 0, 0, 0, 0};
+    static const uint64_t no_edition[SIMMEROTTER_ANSWER_NUMBERS] = {SIMMEROTTER_UNKNOWN_EDITION, 0, 0, 0, 0};
+    static const uint32_t kept[8] = {0, 1, 2, 3, 4, 5, 6, 7};
+    static const uint32_t records[24] = {
+        SIMMEROTTER_STATEMENT_LITERAL, 1, 2, 1, 0, 0, 0, 1, SIMMEROTTER_STATEMENT_LABEL, 2, 4, 2, 0, 0, 0, 2,
+        SIMMEROTTER_STATEMENT_LABEL, 4, 6, 3, 0, 0, 0, 4,
     };
-    static const uint32_t zeros[16] = {0};
-    uint32_t untouched[16];
+    static const uint32_t zeros[24] = {0};
+    uint32_t untouched[24];
 
     fill(untouched, LENGTH(untouched));
-    read_labels("lenient", SIMMEROTTER_LENIENT, accepted, kept, labels);
-    read_labels("strict", SIMMEROTTER_STRICT, refused, kept, zeros);
-    read_labels("unknown mode", 2, unknown, untouched, untouched);
+    read_zero("first edition", SIMMEROTTER_LENIENT, SIMMEROTTER_EDITION_FIRST, first, kept, records);
+    read_zero("second edition", SIMMEROTTER_LENIENT, SIMMEROTTER_EDITION_SECOND, second, kept, records);
+    read_zero("strict", SIMMEROTTER_STRICT, SIMMEROTTER_EDITION_FIRST, refused, kept, zeros);
+    read_zero("unknown mode", 2, SIMMEROTTER_EDITION_FIRST, no_mode, untouched, untouched);
+    read_zero("unknown edition", SIMMEROTTER_STRICT, 0, no_edition, untouched, untouched);
+    read_zero("neither known", 2, 0, no_mode, untouched, untouched);
 }
 
 int main(void)
@@ -196,9 +205,9 @@ int main(void)
     read_short();
     read_table();
     read_later_body();
-    read_in_modes();
+    read_in_modes_and_editions();
     if (failures != 0)
         return 1;
-    printf("C: seven calls as they should be\n");
+    printf("C: ten calls as they should be\n");
     return 0;
 }

@@ -14,7 +14,7 @@
  *
  * After a call
  * - answer[SIMMEROTTER_NUMBER] is 0 if the input was accepted, else a refusal's number.
- * - After 30, 31, 35 and 36 nothing lent has changed.
+ * - After 30, 31, 35, 36 and 38 nothing lent has changed.
  * - Otherwise the first words of the kept list hold the numbers of the tokens that are neither Whitespace nor Comment, in order,
  *   and its other words are untouched. The tables hold the records followed by zeros; after a refusal, only zeros.
  * - A place counts kept tokens from 0: place p is the token whose four words start at tokens[4 * kept[p]]. Ends are exclusive.
@@ -56,6 +56,18 @@ enum simmerotter_mode {
                               * once in a body (22) */
 };
 
+/*
+ * The edition of a body's plain length; any other number is answered by 38. Only a body is measured: a file's call has none.
+ *
+ * Both stay, since a contract is measured by what held when it was lodged. A body's two lengths differ by the number of zero
+ * literals that are no push's operand, and a body without a length in one edition has none in the other; nothing else of an answer
+ * differs. A zero is told by its value: 0x0 and 0x0000 are zeros too.
+ */
+enum simmerotter_edition {
+    SIMMEROTTER_EDITION_FIRST = 1, /* for contracts lodged before the ledger's change: such a zero counts 2, PUSH1 and a byte */
+    SIMMEROTTER_EDITION_SECOND = 2 /* for a ledger on which one byte, PUSH0, pushes a zero (EIP-3855): it counts 1 */
+};
+
 /* Reads a whole file. */
 void simmerotter_read_file(
     uint32_t mode,
@@ -67,9 +79,13 @@ void simmerotter_read_file(
     uint32_t *arguments, size_t arguments_len,
     uint64_t answer[SIMMEROTTER_ANSWER_NUMBERS]);
 
-/* Reads one body, whose opening brace is at place `start`. What follows the body's closing brace is not read. */
+/*
+ * Reads one body, whose opening brace is at place `start`, and measures it in an edition. What follows the body's closing brace is
+ * not read.
+ */
 void simmerotter_read_body(
     uint32_t mode,
+    uint32_t edition,
     const uint8_t *text, size_t text_len,
     const uint32_t *tokens, size_t tokens_len,
     size_t start,
@@ -87,8 +103,9 @@ enum simmerotter_answer {
     SIMMEROTTER_FILE_ARGUMENTS = 4,
     SIMMEROTTER_BODY_STATEMENTS = 2,
     SIMMEROTTER_BODY_ARGUMENTS = 3,
-    /* Bytes of code; SIMMEROTTER_NONE if the body holds more than literals, opcodes, labels and label calls, or, in mode 0,
-     * if a value push in a label has directly behind it, in the same label, no literal that fits it. */
+    /* Bytes of code, counted as simmerotter_edition says; SIMMEROTTER_NONE if the body holds more than literals, opcodes, labels
+     * and label calls, or, in mode 0, if a value push in a label has directly behind it, in the same label, no literal that fits
+     * it. */
     SIMMEROTTER_BODY_PLAIN_LENGTH = 4
 };
 
@@ -117,7 +134,8 @@ enum simmerotter_refusal {
     SIMMEROTTER_STATEMENTS_TOO_SMALL = 33, /* cursor: the records needed */
     SIMMEROTTER_ARGUMENTS_TOO_SMALL = 34,  /* cursor: the records needed */
     SIMMEROTTER_KEPT_TOO_SHORT = 35,       /* cursor: the words needed */
-    SIMMEROTTER_UNKNOWN_MODE = 36          /* before any other; cursor: 0 */
+    SIMMEROTTER_UNKNOWN_MODE = 36,         /* before any other; cursor: 0 */
+    SIMMEROTTER_UNKNOWN_EDITION = 38       /* a body call alone, before any other but 36; cursor: 0 */
 };
 
 /* The words of a token. Start and end count bytes of the text. */

@@ -80,14 +80,14 @@ fn read(job: &Job) -> Outcome {
 
 fn call(job: &Job, text: &[u8], tokens: &[u32]) -> Outcome {
     let lines = Lines::new(text);
-    let mut room = room_in(job.mode);
+    let mut room = Room::with(Options::default().mode(job.mode).edition(job.edition));
     let shown = match job.entry {
         Entry::File => room.read_file(text, tokens).map(|file| match job.form {
-            Form::Person => person::file(&job.text, file, text, tokens, &lines),
+            Form::Person => person::file(job, file, text, tokens, &lines),
             Form::Records { places } => records::file(file, tokens, &lines, places),
         }),
         Entry::Body(start) => room.read_body(text, tokens, start).map(|body| match job.form {
-            Form::Person => person::body(&job.text, body, tokens, &lines),
+            Form::Person => person::body(job, body, tokens, &lines),
             Form::Records { places } => records::body(body, tokens, &lines, places),
         }),
     };
@@ -97,17 +97,13 @@ fn call(job: &Job, text: &[u8], tokens: &[u32]) -> Outcome {
     }
 }
 
-fn room_in(mode: Mode) -> Room {
-    Room::with(Options::default().mode(mode))
-}
-
 /// What `--strict` would refuse of input that was accepted without it. A person is told unasked; a program gets what it asked for
 /// and nothing on standard error.
 fn warning(job: &Job, text: &[u8], tokens: &[u32], lines: &Lines) -> String {
     if job.mode == Mode::Strict || job.form != Form::Person {
         return String::new();
     }
-    let mut room = room_in(Mode::Strict);
+    let mut room = Room::with(Options::default().mode(Mode::Strict));
     let refused = match job.entry {
         Entry::File => room.read_file(text, tokens).err(),
         Entry::Body(start) => room.read_body(text, tokens, start).err(),
@@ -122,6 +118,6 @@ fn warning(job: &Job, text: &[u8], tokens: &[u32], lines: &Lines) -> String {
 fn refusal_of(job: &Job, refused: Refused, site: &Site) -> Outcome {
     match job.form {
         Form::Person => Outcome { out: String::new(), err: refusal::message(job, refused, site), status: REFUSED },
-        Form::Records { .. } => Outcome { out: records::refused(job.entry, refused, site), err: String::new(), status: REFUSED },
+        Form::Records { .. } => Outcome { out: records::refused(job, refused, site), err: String::new(), status: REFUSED },
     }
 }

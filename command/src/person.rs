@@ -1,41 +1,42 @@
 //! The form for people: a line for each definition, argument and statement, with where it stands on the left and what it is
 //! on the right, indented under what it belongs to.
 
-use crate::arguments::shown;
+use crate::arguments::{shown, Job};
 use crate::place::{clean, token_of, Lines};
 use simmerotter::{
-    Argument, ArgumentForm, Arguments, Body, Definition, DefinitionKind, File, FunctionType, Kind, Location, Room, Statement,
-    StatementKind, Statements, Value, TOKEN_WORDS,
+    Argument, ArgumentForm, Arguments, Body, Definition, DefinitionKind, File, FunctionType, Kind, Location, Options, Room,
+    Statement, StatementKind, Statements, Value, TOKEN_WORDS,
 };
-use std::ffi::OsStr;
 use std::ops::Range;
 
 const HEADING: &str = "line:col  places        what\n";
 const INDENT: usize = 2;
+const NO_LENGTH: &str = "no plain length";
 
-pub fn file(path: &OsStr, file: File, text: &[u8], tokens: &[u32], lines: &Lines) -> String {
+pub fn file(job: &Job, file: File, text: &[u8], tokens: &[u32], lines: &Lines) -> String {
     let mut page = Page::new(tokens, file.kept(), lines);
     let counts = [
         counted(file.definitions().count(), "definition"),
         counted(file.all_statements().count(), "statement"),
         counted(file.arguments().count(), "argument"),
     ];
-    page.out += &format!("{}: accepted: {}; the end is place {}\n", shown(path), counts.join(", "), file.end());
+    page.out += &format!("{}: accepted: {}; the end is place {}\n", shown(&job.text), counts.join(", "), file.end());
     if file.definitions().next().is_some() {
         page.out += HEADING;
     }
-    let mut lengths = Lengths { text, tokens, kept: file.kept(), room: Room::new() };
+    let room = Room::with(Options::default().edition(job.edition));
+    let mut lengths = Lengths { text, tokens, kept: file.kept(), room };
     for definition in file.definitions() {
         page.put_definition(definition, text, &mut lengths);
     }
     page.out
 }
 
-pub fn body(path: &OsStr, body: Body, tokens: &[u32], lines: &Lines) -> String {
+pub fn body(job: &Job, body: Body, tokens: &[u32], lines: &Lines) -> String {
     let mut page = Page::new(tokens, body.kept(), lines);
     let counts = [counted(body.all_statements().count(), "statement"), counted(body.arguments().count(), "argument")];
-    let length = length_text(body.plain_length());
-    page.out += &format!("{}: accepted: {}, {}; the end is place {}\n", shown(path), counts.join(", "), length, body.end());
+    let length = length_text(body);
+    page.out += &format!("{}: accepted: {}, {}; the end is place {}\n", shown(&job.text), counts.join(", "), length, body.end());
     if body.all_statements().next().is_some() {
         page.out += HEADING;
     }
@@ -134,15 +135,19 @@ fn value(of: Option<Value>, text_at: impl Fn(usize) -> String) -> String {
 
 fn macro_heading(what: &str, name: &str, definition: Definition, lengths: &mut Lengths) -> String {
     let [takes, returns] = [definition.takes(), definition.returns()].map(|count| count.unwrap_or(0));
-    format!("{} {}, takes {}, returns {}, {}", what, name, takes, returns, length_text(lengths.of(definition)))
+    format!("{} {}, takes {}, returns {}, {}", what, name, takes, returns, lengths.text_of(definition))
 }
 
 fn table_heading(what: &str, name: &str, definition: Definition) -> String {
     format!("{} {}, size {}", what, name, definition.table_size().unwrap_or(0))
 }
 
-fn length_text(length: Option<u64>) -> String {
-    length.map_or_else(|| "no plain length".to_string(), |length| format!("plain length {}", length))
+/// A length goes with its edition; that there is none both editions say alike.
+fn length_text(body: Body) -> String {
+    match body.plain_length() {
+        Some(length) => format!("plain length {} (edition {})", length, body.edition().number()),
+        None => NO_LENGTH.to_string(),
+    }
 }
 
 /// A statement in a line, without what lies under a label.
@@ -202,11 +207,11 @@ struct Lengths<'a> {
 }
 
 impl Lengths<'_> {
-    /// The body is read once more, by itself: its own tokens and an Eof. With the whole list a file of many macros would
-    /// be walked once for each of them.
-    fn of(&mut self, definition: Definition) -> Option<u64> {
-        let list = self.body_list(definition.places())?;
-        self.room.read_body(self.text, &list, 0).ok()?.plain_length()
+    /// In words. The body is read once more, by itself: its own tokens and an Eof. With the whole list a file of many macros
+    /// would be walked once for each of them.
+    fn text_of(&mut self, definition: Definition) -> String {
+        let list = self.body_list(definition.places()).unwrap_or_default();
+        self.room.read_body(self.text, &list, 0).map_or_else(|_| NO_LENGTH.to_string(), length_text)
     }
 
     /// A macro's first brace opens its body, for its head has none; its last token closes it.

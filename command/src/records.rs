@@ -1,7 +1,7 @@
 //! The form for programs: one record a line, the fields separated by one space. docs/COMMAND.md says what each means, and
 //! nothing here changes without it.
 
-use crate::arguments::Entry;
+use crate::arguments::{Entry, Job};
 use crate::place::{token_of, Lines};
 use crate::refusal::Site;
 use simmerotter::{Body, File, Refused, ARGUMENT_WORDS, DEFINITION_WORDS, NONE, STATEMENT_WORDS};
@@ -27,7 +27,8 @@ pub fn body(body: Body, tokens: &[u32], lines: &Lines, places: bool) -> String {
         Records { name: "argument", words: body.argument_words(), width: ARGUMENT_WORDS },
     ];
     let length = body.plain_length().unwrap_or(u64::from(NONE));
-    let mut out = format!("body 0 {} {} {} {}\n", body.end(), tables[0].count(), tables[1].count(), length);
+    let [statements, arguments] = [tables[0].count(), tables[1].count()];
+    let mut out = format!("body 0 {} {} {} {} {}\n", body.end(), statements, arguments, length, body.edition().number());
     tables.iter().for_each(|table| table.put(&mut out));
     if places {
         put_places(&mut out, tokens, body.kept(), lines);
@@ -35,16 +36,16 @@ pub fn body(body: Body, tokens: &[u32], lines: &Lines, places: bool) -> String {
     out
 }
 
-/// The answer's five numbers and a line for whoever shows the refusal.
-pub fn refused(entry: Entry, refused: Refused, site: &Site) -> String {
-    let entry = match entry {
-        Entry::File => "file",
-        Entry::Body(_) => "body",
-    };
+/// The answer's five numbers, for a body also the edition, as where it is accepted; and a line for whoever shows the refusal.
+pub fn refused(job: &Job, refused: Refused, site: &Site) -> String {
     let (number, name, cursor) = (refused.refusal.number(), refused.refusal.name(), refused.cursor);
+    let answer = match job.entry {
+        Entry::File => format!("file {} {} 0 0 0", number, cursor),
+        Entry::Body(_) => format!("body {} {} 0 0 0 {}", number, cursor, job.edition.number()),
+    };
     let position = site.position();
     let [token, line, column] = [site.number, position.map(|p| p.line), position.map(|p| p.column)].map(or_dash);
-    format!("{entry} {number} {cursor} 0 0 0\nrefused {number} {name} {cursor} {token} {line} {column}\n")
+    format!("{answer}\nrefused {number} {name} {cursor} {token} {line} {column}\n")
 }
 
 /// A table's name, words and words a record.

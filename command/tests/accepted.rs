@@ -51,12 +51,12 @@ line:col  places        what
 7:19      65..67          argument uint256 x
 8:1       68..73        constant C = 0x0a
 9:1       73..78        constant D = the free storage pointer
-10:1      78..98        macro M, takes 2, returns 1, plain length 0
+10:1      78..98        macro M, takes 2, returns 1, plain length 0 (edition 1)
 10:19     82..83          argument a
 10:23     84..86          argument calldata b
-11:1      98..107       fn N, takes 0, returns 0, plain length 1
+11:1      98..107       fn N, takes 0, returns 0, plain length 1 (edition 1)
 11:22     105..106        opcode stop (0x00)
-12:1      107..120      test T, takes 0, returns 3, plain length 3
+12:1      107..120      test T, takes 0, returns 3, plain length 3 (edition 1)
 12:38     118..119        literal 0x0100
 13:1      120..127      jump table J, size 64
 13:23     124..125        label call x
@@ -100,7 +100,7 @@ line:col  places        what
 #[test]
 fn a_body_with_a_plain_length() {
     let wanted = "\
-accepted_length.huff: accepted: 4 statements, 0 arguments, plain length 9; the end is place 6
+accepted_length.huff: accepted: 4 statements, 0 arguments, plain length 9 (edition 1); the end is place 6
 line:col  places        what
 1:3       1..2          opcode push4 (0x63)
 1:9       2..3          literal 0x01
@@ -113,8 +113,8 @@ line:col  places        what
 #[test]
 fn a_push_in_a_label_has_its_operand_or_the_body_no_length() {
     let rows = [
-        ("{ go : push4 0x01 }", "plain length 6"),
-        ("{ push1 0x01 go : push4 0x0001 x }", "plain length 11"),
+        ("{ go : push4 0x01 }", "plain length 6 (edition 1)"),
+        ("{ push1 0x01 go : push4 0x0001 x }", "plain length 11 (edition 1)"),
         ("{ go : push1 }", "no plain length"),
         ("{ go : push1 0x0100 }", "no plain length"),
         ("{ go : push1 b : 0x01 }", "no plain length"),
@@ -129,7 +129,7 @@ fn a_push_in_a_label_has_its_operand_or_the_body_no_length() {
 fn a_body_may_start_anywhere() {
     let text = "#define macro M ( ) = { stop }";
     let input = Input::new("accepted_start", text.as_bytes(), &cut(text));
-    let wanted = "accepted_start.huff: accepted: 1 statement, 0 arguments, plain length 1; the end is place 9\n";
+    let wanted = "accepted_start.huff: accepted: 1 statement, 0 arguments, plain length 1 (edition 1); the end is place 9\n";
     assert!(input.accepted(&["--body", "6"]).starts_with(wanted));
 }
 
@@ -137,7 +137,7 @@ fn a_body_may_start_anywhere() {
 fn nothing_read_is_one_line() {
     let wanted = "accepted_none.huff: accepted: 0 definitions, 0 statements, 0 arguments; the end is place 0\n";
     assert_eq!(file("accepted_none", " \n"), wanted);
-    let wanted = "accepted_braces.huff: accepted: 0 statements, 0 arguments, plain length 0; the end is place 2\n";
+    let wanted = "accepted_braces.huff: accepted: 0 statements, 0 arguments, plain length 0 (edition 1); the end is place 2\n";
     assert_eq!(body("accepted_braces", "{ }"), wanted);
 }
 
@@ -185,8 +185,8 @@ fn lengths_of_macros_are_those_of_their_bodies() {
     let found = Input::new("accepted_lengths", text, &list(text, &tokens)).accepted(&[]);
     let headings: Vec<&str> = found.lines().filter_map(|line| line.split_once("macro ")).map(|(_, rest)| rest).collect();
     let wanted = [
-        "A, takes 0, returns 0, plain length 0",
-        "B, takes 0, returns 0, plain length 6",
+        "A, takes 0, returns 0, plain length 0 (edition 1)",
+        "B, takes 0, returns 0, plain length 6 (edition 1)",
         "C, takes 0, returns 0, no plain length",
     ];
     assert_eq!(headings, wanted);
@@ -214,6 +214,6 @@ fn a_large_file_takes_a_moment() {
     let before = std::time::Instant::now();
     let found = input.accepted(&[]);
     assert!(found.contains("7000 definitions, 7000 statements"));
-    assert_eq!(found.matches("plain length 1\n").count(), 7_000);
+    assert_eq!(found.matches("plain length 1 (edition 1)\n").count(), 7_000);
     assert!(before.elapsed().as_secs() < 20, "{:?}", before.elapsed());
 }

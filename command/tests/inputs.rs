@@ -102,5 +102,5 @@ fn words_are_little_endian() {
     let mut bytes = vec![29, 0, 0, 0, 0, 0, 0, 0, 1, 0, 0, 0, 0, 0, 0, 0];
     bytes.extend(bytes_of(&[30, 1, 2, 0, 0, 2, 2, 0]));
     fs::write(&input.words, bytes).unwrap();
-    assert_eq!(input.accepted(&["--records", "--body", "0"]), "body 0 2 0 0 0\n");
+    assert_eq!(input.accepted(&["--records", "--body", "0"]), "body 0 2 0 0 0 1\n");
 }

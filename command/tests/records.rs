@@ -3,7 +3,7 @@
 mod common;
 
 use common::{cut, Input};
-use simmerotter::{raw, Mode, Room, NONE};
+use simmerotter::{raw, Edition, Mode, Room, NONE};
 
 const FILE: &str = "\
 #include \"a\"
@@ -52,12 +52,12 @@ fn a_body_is_the_library_s_answer_and_tables() {
     let text = "{ push1 0x01 F ( a ) go : stop }";
     let words = cut(text);
     let (mut kept, mut statements, mut arguments) = (vec![0; 20], vec![0; 80], vec![0; 70]);
-    let mode = Mode::Lenient.number();
-    let answer = raw::read_body(mode, text.as_bytes(), &words, 0, &mut kept, &mut statements, &mut arguments);
+    let (mode, edition) = (Mode::Lenient.number(), Edition::First.number());
+    let answer = raw::read_body(mode, edition, text.as_bytes(), &words, 0, &mut kept, &mut statements, &mut arguments);
     let [number, cursor, s, a, length] = answer;
     assert_eq!((number, s, a, length), (0, 5, 1, u64::from(NONE)));
     let wanted = lines_of(
-        format!("body {} {} {} {} {}", number, cursor, s, a, length),
+        format!("body {} {} {} {} {} {}", number, cursor, s, a, length, edition),
         &[("statement", 8, s as usize, &statements), ("argument", 7, a as usize, &arguments)],
     );
     let input = Input::new("records_body", text.as_bytes(), &words);
@@ -65,11 +65,11 @@ fn a_body_is_the_library_s_answer_and_tables() {
 }
 
 #[test]
-fn a_body_s_plain_length_is_the_last_number() {
+fn a_body_s_plain_length_and_edition_are_the_last_numbers() {
     let text = "{ push4 0x01 stop }";
     let input = Input::new("records_length", text.as_bytes(), &cut(text));
     let found = input.accepted(&["--body", "0", "--records"]);
-    assert_eq!(found.lines().next(), Some("body 0 5 3 0 6"));
+    assert_eq!(found.lines().next(), Some("body 0 5 3 0 6 1"));
 }
 
 #[test]
@@ -85,7 +85,7 @@ fn places_are_added_when_asked_for() {
 fn places_name_kept_tokens_only() {
     let input = Input::new("records_kept", b" {}", &[1, 0, 1, 0, 29, 1, 2, 0, 30, 2, 3, 0, 0, 3, 3, 0]);
     let found = input.accepted(&["--records", "--places", "--body", "0"]);
-    assert_eq!(found, "body 0 2 0 0 0\nplace 0 1 1 2\nplace 1 2 1 3\nplace 2 3 1 4\n");
+    assert_eq!(found, "body 0 2 0 0 0 1\nplace 0 1 1 2\nplace 1 2 1 3\nplace 2 3 1 4\n");
 }
 
 /// A refusal's lines; nothing on standard error, for the answer is the answer.
@@ -101,14 +101,14 @@ fn a_refusal_at_a_place() {
     let found = refused("records_refused", text, &cut(text), &[]);
     assert_eq!(found, "file 4 9 0 0 0\nrefused 4 InvalidPush 9 9 2 15\n");
     let found = refused("records_refused_body", text, &cut(text), &["--body", "6", "--places"]);
-    assert_eq!(found, "body 4 9 0 0 0\nrefused 4 InvalidPush 9 9 2 15\n");
+    assert_eq!(found, "body 4 9 0 0 0 1\nrefused 4 InvalidPush 9 9 2 15\n");
 }
 
 #[test]
 fn a_refusal_without_a_place_has_dashes() {
     let list = [0, 0, 0, 0];
     let found = refused("records_31", "", &list, &["--body", "8"]);
-    assert_eq!(found, "body 31 8 0 0 0\nrefused 31 StartOutside 8 - - -\n");
+    assert_eq!(found, "body 31 8 0 0 0 1\nrefused 31 StartOutside 8 - - -\n");
     assert_eq!(refused("records_30", "", &list[..3], &[]), "file 30 0 0 0 0\nrefused 30 NotWellFormed 0 - - -\n");
     let far = [38, 9, 9, 0, 0, 9, 9, 0];
     assert_eq!(refused("records_30b", "", &far, &[]), "file 30 0 0 0 0\nrefused 30 NotWellFormed 0 0 - -\n");

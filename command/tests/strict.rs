@@ -16,14 +16,14 @@ fn as_warning(refused: &str) -> String {
 
 /// Bodies that are accepted without the option, and the first line for programs with it.
 const ROWS: [(&str, &str); 8] = [
-    ("{ go : push1 }", "body 4 4 0 0 0"),
-    ("{ go : push1 0x0100 }", "body 4 5 0 0 0"),
-    ("{ a : b : a : }", "body 22 5 0 0 0"),
-    ("{ a : push1 a : }", "body 4 4 0 0 0"),
-    ("{ a : push1 stop }", "body 4 4 0 0 0"),
-    ("{ push1 0x01 a : push4 0x0102030405 }", "body 4 7 0 0 0"),
-    ("{ go : push1 0x01 }", "body 0 6 3 0 3"),
-    ("{ a a : a b : }", "body 0 8 4 0 8"),
+    ("{ go : push1 }", "body 4 4 0 0 0 1"),
+    ("{ go : push1 0x0100 }", "body 4 5 0 0 0 1"),
+    ("{ a : b : a : }", "body 22 5 0 0 0 1"),
+    ("{ a : push1 a : }", "body 4 4 0 0 0 1"),
+    ("{ a : push1 stop }", "body 4 4 0 0 0 1"),
+    ("{ push1 0x01 a : push4 0x0102030405 }", "body 4 7 0 0 0 1"),
+    ("{ go : push1 0x01 }", "body 0 6 3 0 3 1"),
+    ("{ a a : a b : }", "body 0 8 4 0 8 1"),
 ];
 
 #[test]

@@ -2,7 +2,7 @@
 
 mod common;
 
-use common::{command, path, run, Input, Run};
+use common::{command, path, run, wrong, Input, Run};
 use std::fs;
 use std::process::Stdio;
 
@@ -14,7 +14,8 @@ fn help() -> String {
 fn help_is_printed_on_standard_output() {
     let found = run(&["--help"]);
     assert_eq!((found.status, found.err.as_str()), (Some(0), ""));
-    for part in ["simmerotter TEXT WORDS", "--body PLACE", "--strict", "--records", "--places", "--help", "Example:"] {
+    let options = ["--body PLACE", "--strict", "--edition N", "--records", "--places", "--help"];
+    for part in options.into_iter().chain(["simmerotter TEXT WORDS", "Example:"]) {
         assert!(found.out.contains(part), "{}", part);
     }
 }
@@ -27,14 +28,6 @@ fn help_wins_over_what_else_is_given() {
 #[test]
 fn no_argument_prints_the_help_as_an_error() {
     assert_eq!(run::<&str>(&[]), Run { out: String::new(), err: help(), status: Some(2) });
-}
-
-/// The message of wrong usage, without the hint that follows it.
-fn wrong(arguments: &[&str]) -> String {
-    let found = run(arguments);
-    assert_eq!((found.status, found.out.as_str()), (Some(2), ""));
-    let hint = "\nsimmerotter --help explains the usage.\n";
-    found.err.strip_suffix(hint).expect("no hint").to_string()
 }
 
 #[test]
@@ -54,7 +47,7 @@ fn wrong_usage_is_named() {
 
 #[test]
 fn a_place_is_a_number() {
-    assert_eq!(wrong(&["--body"]), "simmerotter: --body needs a place");
+    assert_eq!(wrong(&["--body"]), "simmerotter: --body needs a place from 0 to 4294967295");
     for place in ["", "-1", "+1", "0x1", "1.0", "4294967296", "99999999999999999999999", "text"] {
         let message = format!("simmerotter: --body needs a place from 0 to 4294967295, not {}", place);
         assert_eq!(wrong(&["--body", place, "a", "b"]), message);
@@ -70,7 +63,7 @@ fn an_option_shown_does_not_steer_the_terminal() {
 fn options_may_stand_anywhere() {
     let input = Input::new("usage_anywhere", b"{}", &[29, 0, 1, 0, 30, 1, 2, 0, 0, 2, 2, 0]);
     let first = input.run(&["--body", "0", "--records"]);
-    assert_eq!(first.out, "body 0 2 0 0 0\n");
+    assert_eq!(first.out, "body 0 2 0 0 0 1\n");
     let last = run(&[input.text.as_os_str(), input.words.as_os_str(), "--records".as_ref(), "--body".as_ref(), "0".as_ref()]);
     assert_eq!(last, first);
 }

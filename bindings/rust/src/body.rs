@@ -1,5 +1,6 @@
 //! A body that was read.
 
+use crate::options::Edition;
 use crate::reading::Reading;
 use crate::records::{Argument, Arguments, Statement, Statements};
 use crate::token::TokenAt;
@@ -10,6 +11,7 @@ use std::fmt;
 pub struct Body<'a> {
     pub(crate) reading: Reading<'a>,
     pub(crate) end: usize,
+    pub(crate) edition: Edition,
     pub(crate) plain_length: Option<u64>,
 }
 
@@ -44,8 +46,16 @@ impl<'a> Body<'a> {
         self.end
     }
 
-    /// The bytes of code that the body makes. `None` if it holds more than literals, opcodes, labels and label calls, or,
-    /// read leniently, if a value push in a label has directly behind it, in the same label, no literal that fits it.
+    /// The edition in which the body was measured.
+    pub fn edition(self) -> Edition {
+        self.edition
+    }
+
+    /// The bytes of code that the body makes, in the room's [edition](Body::edition): in the first a zero literal that is no
+    /// push's operand counts 2, in the second 1, and all else counts alike.
+    ///
+    /// `None` in either if the body holds more than literals, opcodes, labels and label calls, or, read leniently, if a value
+    /// push in a label has directly behind it, in the same label, no literal that fits it.
     pub fn plain_length(self) -> Option<u64> {
         self.plain_length
     }
@@ -78,6 +88,7 @@ impl<'a> Body<'a> {
 
 impl fmt::Debug for Body<'_> {
     fn fmt(&self, f: &mut fmt::Formatter<'_>) -> fmt::Result {
-        f.debug_struct("Body").field("end", &self.end).field("plain_length", &self.plain_length).finish()
+        let mut shown = f.debug_struct("Body");
+        shown.field("end", &self.end).field("edition", &self.edition).field("plain_length", &self.plain_length).finish()
     }
 }

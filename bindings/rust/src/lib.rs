@@ -2,7 +2,8 @@
 //!
 //! A [`Room`] holds the tables that the parser writes into. It reads a whole file into a [`File`] or one macro body into a
 //! [`Body`], and their definitions, statements and arguments are views over those tables. Bad input gives a [`Refused`]: a
-//! number and a cursor. A room's [`Options`] say in which [`Mode`] it reads, leniently if they say nothing.
+//! number and a cursor. A room's [`Options`] say in which [`Mode`] it reads, leniently if they say nothing, and in which
+//! [`Edition`] it measures a body, the first if they say nothing.
 //!
 //! Two words occur everywhere. A token's *number* is its index in the token list. A *place* counts only the tokens that are
 //! neither white space nor comment, from 0. Ends of ranges are exclusive.
@@ -48,7 +49,7 @@ pub mod token;
 pub use body::Body;
 pub use file::File;
 pub use kinds::Kind;
-pub use options::{Mode, Options};
+pub use options::{Edition, Mode, Options};
 pub use records::{
     Argument, ArgumentForm, Arguments, Definition, DefinitionKind, Definitions, FunctionType, Location, Statement, StatementKind,
     Statements, Value,

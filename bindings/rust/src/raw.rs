@@ -1,5 +1,6 @@
 //! The archive's two functions over slices, as they are: the caller gives a mode's number ([`Mode::number`](crate::Mode::number)),
-//! lends every list and reads the five numbers. Another number than those of modes is answered by 36.
+//! for a body also an edition's ([`Edition::number`](crate::Edition::number)), lends every list and reads the five numbers. A
+//! number that is no mode's is answered by 36, one that is no edition's by 38.
 //!
 //! A call takes up to about 70 KB of stack in mode 0; in mode 1 as much where no body has more than 512 tokens, else up to about
 //! 400 KB. Calls share nothing, so threads may call at once.
@@ -26,6 +27,7 @@ extern "C" {
 
     fn simmerotter_read_body(
         mode: u32,
+        edition: u32,
         text: *const u8,
         text_len: usize,
         tokens: *const u32,
@@ -75,10 +77,13 @@ pub fn read_file(
     answer
 }
 
-/// Reads the body whose opening brace is at place `start` in a mode. The answer: number (0 accepted), cursor, statements,
-/// arguments, plain length ([`crate::NONE`] if the body has none).
+/// Reads the body whose opening brace is at place `start` in a mode, and measures it in an edition. The answer: number
+/// (0 accepted), cursor, statements, arguments, plain length ([`crate::NONE`] if the body has none).
+// The archive's function takes so many.
+#[allow(clippy::too_many_arguments)]
 pub fn read_body(
     mode: u32,
+    edition: u32,
     text: &[u8],
     tokens: &[u32],
     start: usize,
@@ -91,6 +96,7 @@ pub fn read_body(
     unsafe {
         simmerotter_read_body(
             mode,
+            edition,
             text.as_ptr(),
             text.len(),
             tokens.as_ptr(),

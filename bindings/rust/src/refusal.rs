@@ -51,6 +51,8 @@ pub enum Refusal {
     KeptTooShort,
     /// 36. No mode has the number that was given. A [`Room`](crate::Room) never answers so.
     UnknownMode,
+    /// 38. No edition has the number that was given for a body. A [`Room`](crate::Room) never answers so.
+    UnknownEdition,
     /// A number that this crate does not know, which an archive of another version may give.
     Unknown(u32),
 }
@@ -66,13 +68,13 @@ pub enum Cursor {
     Start,
     /// How many records, or words of the kept list, are needed (32 to 35).
     Needed,
-    /// Nothing: it is 0 (36).
+    /// Nothing: it is 0 (36 and 38).
     Nothing,
 }
 
 impl Refusal {
     /// Every refusal of the rules, in the order of the numbers.
-    pub const ALL: [Refusal; 23] = [
+    pub const ALL: [Refusal; 24] = [
         Refusal::UnexpectedType,
         Refusal::InvalidDefinition,
         Refusal::InvalidConstantValue,
@@ -96,6 +98,7 @@ impl Refusal {
         Refusal::ArgumentsTooSmall,
         Refusal::KeptTooShort,
         Refusal::UnknownMode,
+        Refusal::UnknownEdition,
     ];
 
     /// The refusal's number.
@@ -124,6 +127,7 @@ impl Refusal {
             Refusal::ArgumentsTooSmall => 34,
             Refusal::KeptTooShort => 35,
             Refusal::UnknownMode => 36,
+            Refusal::UnknownEdition => 38,
             Refusal::Unknown(number) => number,
         }
     }
@@ -159,6 +163,7 @@ impl Refusal {
             Refusal::ArgumentsTooSmall => "ArgumentsTooSmall",
             Refusal::KeptTooShort => "KeptTooShort",
             Refusal::UnknownMode => "UnknownMode",
+            Refusal::UnknownEdition => "UnknownEdition",
             Refusal::Unknown(_) => "Unknown",
         }
     }
@@ -189,6 +194,7 @@ impl Refusal {
             Refusal::ArgumentsTooSmall => "the argument table has too few records",
             Refusal::KeptTooShort => "the kept list is too short",
             Refusal::UnknownMode => "no mode has the number that was given",
+            Refusal::UnknownEdition => "no edition has the number that was given",
             Refusal::Unknown(_) => "the archive gave a number that this crate does not know",
         }
     }
@@ -201,7 +207,7 @@ impl Refusal {
             Refusal::DefinitionsTooSmall | Refusal::StatementsTooSmall | Refusal::ArgumentsTooSmall | Refusal::KeptTooShort => {
                 Cursor::Needed
             }
-            Refusal::UnknownMode => Cursor::Nothing,
+            Refusal::UnknownMode | Refusal::UnknownEdition => Cursor::Nothing,
             _ => Cursor::Place,
         }
     }

@@ -2,7 +2,7 @@
 
 use crate::body::Body;
 use crate::file::File;
-use crate::options::{Mode, Options};
+use crate::options::Options;
 use crate::raw;
 use crate::reading::{Reading, Tables};
 use crate::refusal::{Refusal, Refused};
@@ -38,7 +38,7 @@ impl Enough {
 }
 
 impl Room {
-    /// An empty room that reads leniently.
+    /// An empty room that reads leniently, and measures bodies in the first edition.
     pub fn new() -> Room {
         Room::with(Options::default())
     }
@@ -50,21 +50,21 @@ impl Room {
 
     /// Reads a whole file: its text and its token list, four words a token.
     pub fn read_file<'a>(&'a mut self, text: &'a [u8], tokens: &'a [u32]) -> Result<File<'a>, Refused> {
-        let mode = self.options.mode;
-        let answer = self.tables.until_room(tokens, |tables, enough| tables.call_file(mode, text, tokens, enough));
+        let options = self.options;
+        let answer = self.tables.until_room(tokens, |tables, enough| tables.call_file(options, text, tokens, enough));
         let [number, cursor, definitions, statements, arguments] = answer;
         let end = self.tables.settle(tokens, number, cursor, [definitions, statements, arguments])?;
         Ok(File { reading: Reading { text, tokens, tables: &self.tables }, end })
     }
 
-    /// Reads the body whose opening brace is at place `start`.
+    /// Reads the body whose opening brace is at place `start`, and measures it.
     pub fn read_body<'a>(&'a mut self, text: &'a [u8], tokens: &'a [u32], start: usize) -> Result<Body<'a>, Refused> {
-        let mode = self.options.mode;
-        let answer = self.tables.until_room(tokens, |tables, enough| tables.call_body(mode, text, tokens, start, enough));
+        let options = self.options;
+        let answer = self.tables.until_room(tokens, |tables, enough| tables.call_body(options, text, tokens, start, enough));
         let [number, cursor, statements, arguments, length] = answer;
         let end = self.tables.settle(tokens, number, cursor, [0, statements, arguments])?;
         let plain_length = Some(length).filter(|length| *length != u64::from(NONE));
-        Ok(Body { reading: Reading { text, tokens, tables: &self.tables }, end, plain_length })
+        Ok(Body { reading: Reading { text, tokens, tables: &self.tables }, end, edition: options.edition, plain_length })
     }
 
     /// The token numbers of all places, after the last call: accepted or refused, but for `NotWellFormed` and `StartOutside`.
@@ -130,9 +130,9 @@ impl Tables {
     }
 
     /// A table that has grown for a large list is lent to a small one only as far as that can need: a call clears all it gets.
-    fn call_file(&mut self, mode: Mode, text: &[u8], tokens: &[u32], enough: Enough) -> [u64; 5] {
+    fn call_file(&mut self, options: Options, text: &[u8], tokens: &[u32], enough: Enough) -> [u64; 5] {
         raw::read_file(
-            mode.number(),
+            options.mode.number(),
             text,
             tokens,
             self.kept.lend(enough.kept),
@@ -142,9 +142,10 @@ impl Tables {
         )
     }
 
-    fn call_body(&mut self, mode: Mode, text: &[u8], tokens: &[u32], start: usize, enough: Enough) -> [u64; 5] {
+    fn call_body(&mut self, options: Options, text: &[u8], tokens: &[u32], start: usize, enough: Enough) -> [u64; 5] {
         raw::read_body(
-            mode.number(),
+            options.mode.number(),
+            options.edition.number(),
             text,
             tokens,
             start,
@@ -173,8 +174,15 @@ impl Tables {
 
 /// Whether the kept list was written before this refusal.
 fn wrote_kept(refusal: Refusal) -> bool {
-    let unchanged = [Refusal::UnknownMode, Refusal::NotWellFormed, Refusal::StartOutside, Refusal::KeptTooShort];
-    !unchanged.contains(&refusal) && !matches!(refusal, Refusal::Unknown(_))
+    !matches!(
+        refusal,
+        Refusal::UnknownMode
+            | Refusal::UnknownEdition
+            | Refusal::NotWellFormed
+            | Refusal::StartOutside
+            | Refusal::KeptTooShort
+            | Refusal::Unknown(_)
+    )
 }
 
 fn to_size(number: u64) -> usize {
@@ -261,13 +269,15 @@ mod tests {
         assert!(tables.kept.words().is_empty());
     }
 
-    /// No room gives an unknown mode, but an older archive might not know a newer one's number.
+    /// No room gives an unknown mode or edition, but an older archive might not know a newer one's number.
     #[test]
-    fn an_unknown_mode_is_a_refusal_that_wrote_nothing() {
-        let mut tables = Tables::new();
-        tables.kept.grow(1);
-        let refused = tables.settle(&opcodes(1), 36, 0, [0; 3]).unwrap_err();
-        assert_eq!(refused, Refused { refusal: Refusal::UnknownMode, cursor: 0 });
-        assert!(tables.kept.words().is_empty());
+    fn an_unknown_mode_or_edition_is_a_refusal_that_wrote_nothing() {
+        for (number, refusal) in [(36, Refusal::UnknownMode), (38, Refusal::UnknownEdition)] {
+            let mut tables = Tables::new();
+            tables.kept.grow(1);
+            let refused = tables.settle(&opcodes(1), number, 0, [0; 3]).unwrap_err();
+            assert_eq!(refused, Refused { refusal, cursor: 0 });
+            assert!(tables.kept.words().is_empty());
+        }
     }
 }

@@ -1,6 +1,6 @@
 //! The C header and the crate give the same names the same numbers.
 
-use simmerotter::{ArgumentForm, DefinitionKind, FunctionType, Kind, Location, Mode, Refusal, StatementKind};
+use simmerotter::{ArgumentForm, DefinitionKind, Edition, FunctionType, Kind, Location, Mode, Refusal, StatementKind};
 use std::collections::HashMap;
 use std::fmt::Debug;
 use std::fs;
@@ -48,11 +48,13 @@ fn assert_same<T: Debug>(prefix: &str, names: impl IntoIterator<Item = T>, numbe
 }
 
 #[test]
-fn modes_kinds_and_refusals_are_the_same() {
+fn modes_editions_kinds_and_refusals_are_the_same() {
     assert_eq!(assert_same("", Mode::ALL, |mode| mode.number()), 2);
+    assert_eq!(assert_same("EDITION_", Edition::ALL, |edition| edition.number()), 2);
+    assert_eq!(constants().keys().filter(|name| name.starts_with("EDITION_")).count(), 2);
     assert_eq!(assert_same("KIND_", Kind::ALL, |kind| kind.number()), 46);
     assert_eq!(constants().keys().filter(|name| name.starts_with("KIND_")).count(), 46);
-    assert_eq!(assert_same("", Refusal::ALL, |refusal| refusal.number()), 23);
+    assert_eq!(assert_same("", Refusal::ALL, |refusal| refusal.number()), 24);
 }
 
 #[test]

@@ -2,8 +2,8 @@
 
 mod common;
 
-use common::{cases, room_in, Source};
-use simmerotter::{Mode, Options, Refusal, Refused, Room, StatementKind};
+use common::{cases, room_in, Setting, Source};
+use simmerotter::{Edition, Mode, Options, Refusal, Refused, Room, StatementKind};
 
 /// The end of a body, or its refusal's number and cursor.
 type Answer = Result<usize, (u32, usize)>;
@@ -133,7 +133,7 @@ fn an_unknown_mode_has_a_cursor_that_counts_nothing() {
 fn strict_reading_only_refuses_more() {
     let (mut same, mut pushes, mut labels) = (0, 0, 0);
     for case in cases() {
-        let (lenient, strict) = (case.call_with_enough(Mode::Lenient), case.call_with_enough(Mode::Strict));
+        let [lenient, strict] = Mode::ALL.map(|mode| case.call_with_enough(Setting { mode, edition: Edition::First }));
         match strict.0[0] {
             _ if strict == lenient => same += 1,
             4 => pushes += 1,

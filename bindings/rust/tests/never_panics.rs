@@ -2,10 +2,10 @@
 
 mod common;
 
-use common::{cases, room_in, Case, Chance, Lists, Source};
+use common::{cases, room_in, Case, Chance, Lists, Setting, Source, SETTINGS};
 use simmerotter::{
     Argument, Body, Definition, DefinitionKind, File, Kind, Mode, Refusal, Refused, Room, Statement, TokenAt, MAX_TEXT,
-    MAX_TOKENS,
+    MAX_TOKENS, NONE,
 };
 
 const RANDOM_LISTS: usize = 6_000;
@@ -14,24 +14,26 @@ const MUTATED_LISTS: usize = 16_000;
 #[test]
 fn random_words_are_answered() {
     let mut chance = Chance::new(1);
-    let mut rooms = Mode::ALL.map(room_in);
+    let mut rooms = SETTINGS.map(Setting::room);
     let mut tally = Tally::default();
     for _ in 0..RANDOM_LISTS {
         let text: Vec<u8> = (0..chance.below(40)).map(|_| chance.word() as u8).collect();
         let tokens: Vec<u32> = (0..chance.below(60)).map(|_| random_word(&mut chance)).collect();
         let start = random_start(&mut chance);
-        tally.read_in_both_modes(&mut rooms, &text, &tokens, start);
+        tally.read_in_all_settings(&mut rooms, &text, &tokens, start);
+        tally.ask(random_numbers(&mut chance), &text, &tokens, start);
     }
     println!("random words: {:?}", tally);
-    assert_eq!(tally.calls, 4 * RANDOM_LISTS);
-    assert!(tally.refused > 2 * RANDOM_LISTS, "{:?}", tally);
+    assert_eq!(tally.calls, 9 * RANDOM_LISTS);
+    assert!(tally.refused > 4 * RANDOM_LISTS, "{:?}", tally);
+    assert!(tally.turned_away > RANDOM_LISTS / 4, "{:?}", tally);
 }
 
 #[test]
 fn mutated_cases_are_answered() {
     let cases = cases();
     let mut chance = Chance::new(2);
-    let mut rooms = Mode::ALL.map(room_in);
+    let mut rooms = SETTINGS.map(Setting::room);
     let mut tally = Tally::default();
     for _ in 0..MUTATED_LISTS {
         let case = &cases[chance.below(cases.len())];
@@ -41,13 +43,14 @@ fn mutated_cases_are_answered() {
             1 => chance.below(tokens.len() + 1),
             _ => random_start(&mut chance),
         };
-        tally.read_in_both_modes(&mut rooms, &text, &tokens, start);
+        tally.read_in_all_settings(&mut rooms, &text, &tokens, start);
+        tally.ask(random_numbers(&mut chance), &text, &tokens, start);
     }
     println!("mutated cases: {:?}", tally);
-    assert_eq!(tally.calls, 4 * MUTATED_LISTS);
+    assert_eq!(tally.calls, 9 * MUTATED_LISTS);
     // Lists that pass the door are most of what this test is about.
-    assert!(tally.accepted > 2_000 && tally.refused_by_grammar > 10_000, "{:?}", tally);
-    assert!(tally.views > 20_000, "{:?}", tally);
+    assert!(tally.accepted > 4_000 && tally.refused_by_grammar > 20_000, "{:?}", tally);
+    assert!(tally.views > 40_000 && tally.turned_away > MUTATED_LISTS / 4, "{:?}", tally);
 }
 
 /// Small numbers are kinds and positions; the others try the limits of 32 bits.
@@ -67,6 +70,11 @@ fn random_start(chance: &mut Chance) -> usize {
         2 => chance.number() as usize,
         _ => chance.below(20),
     }
+}
+
+/// For a mode and an edition; either may be the number of none.
+fn random_numbers(chance: &mut Chance) -> [u32; 2] {
+    [chance.below(3) as u32, chance.edition()]
 }
 
 /// A case's list with up to three changes; most of them leave it well formed.
@@ -111,20 +119,35 @@ struct Tally {
     accepted: usize,
     refused: usize,
     refused_by_grammar: usize,
+    turned_away: usize,
     views: usize,
 }
 
 impl Tally {
-    fn read_in_both_modes(&mut self, rooms: &mut [Room; 2], text: &[u8], tokens: &[u32], start: usize) {
-        for (mode, room) in Mode::ALL.into_iter().zip(rooms) {
-            self.read_file(mode, room, text, tokens);
-            self.read_body(mode, room, text, tokens, start);
+    fn read_in_all_settings(&mut self, rooms: &mut [Room; 4], text: &[u8], tokens: &[u32], start: usize) {
+        for (setting, room) in SETTINGS.into_iter().zip(rooms) {
+            self.read_file(setting, room, text, tokens);
+            self.read_body(setting, room, text, tokens, start);
         }
     }
 
-    fn read_file(&mut self, mode: Mode, room: &mut Room, text: &[u8], tokens: &[u32]) {
+    /// The archive alone, with any two numbers: that there is no such mode comes first, then no such edition, then all else.
+    fn ask(&mut self, [mode, edition]: [u32; 2], text: &[u8], tokens: &[u32], start: usize) {
         let mut lists = Lists::enough(tokens);
-        let answer = lists.read_file(mode.number(), text, tokens);
+        let answer = lists.read_body(mode, edition, text, tokens, start);
+        self.calls += 1;
+        let number = match (mode, edition) {
+            (0 | 1, 1 | 2) => return assert!(answer[0] < 36),
+            (0 | 1, _) => 38,
+            _ => 36,
+        };
+        assert_eq!((answer, lists), ([number, 0, 0, 0, 0], Lists::enough(tokens)));
+        self.turned_away += 1;
+    }
+
+    fn read_file(&mut self, setting: Setting, room: &mut Room, text: &[u8], tokens: &[u32]) {
+        let mut lists = Lists::enough(tokens);
+        let answer = lists.read_file(setting.mode.number(), text, tokens);
         match room.read_file(text, tokens) {
             Ok(file) => {
                 assert_eq!((answer[0], answer[1]), (0, file.end() as u64));
@@ -140,12 +163,14 @@ impl Tally {
         self.walk_room(room, tokens);
     }
 
-    fn read_body(&mut self, mode: Mode, room: &mut Room, text: &[u8], tokens: &[u32], start: usize) {
+    fn read_body(&mut self, setting: Setting, room: &mut Room, text: &[u8], tokens: &[u32], start: usize) {
         let mut lists = Lists::enough(tokens);
-        let answer = lists.read_body(mode.number(), text, tokens, start);
+        let [mode, edition] = setting.numbers();
+        let answer = lists.read_body(mode, edition, text, tokens, start);
         match room.read_body(text, tokens, start) {
             Ok(body) => {
                 assert_eq!((answer[0], answer[1]), (0, body.end() as u64));
+                assert_eq!((body.edition(), body.plain_length().unwrap_or(u64::from(NONE))), (setting.edition, answer[4]));
                 assert_eq!(body.all_statements().count() as u64, answer[2]);
                 assert_eq!(body.arguments().count() as u64, answer[3]);
                 self.views += walk_body(body);

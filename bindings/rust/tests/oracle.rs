@@ -3,12 +3,13 @@
 
 mod common;
 
-use common::{cases, room_in, Case};
-use simmerotter::{Body, Definition, File, Mode, Refused, Room, Statement};
+use common::{cases, Case, Setting, SETTINGS};
+use simmerotter::{Body, Definition, Edition, File, Mode, Refused, Room, Statement};
 
-/// The sample has 4,171 cases, 632 of them strict; a shorter one would prove less than these tests say.
+/// Of cases in all, of strict ones, of bodies in the second edition: with fewer these tests would show less than they say.
 const FEWEST: usize = 4_000;
 const FEWEST_STRICT: usize = 600;
+const FEWEST_SECOND: usize = 100;
 
 #[test]
 fn the_archive_leaves_what_the_cases_say() {
@@ -29,33 +30,35 @@ fn the_archive_leaves_what_the_cases_say() {
 
 #[test]
 fn a_room_reads_what_the_cases_say() {
-    let mut shared = Mode::ALL.map(room_in);
-    let (mut compared, mut grown, mut strict) = (0, 0, 0);
+    let mut shared = SETTINGS.map(|setting| (setting, setting.room()));
+    let (mut compared, mut grown, mut strict, mut second) = (0, 0, 0, 0);
     for case in &cases() {
-        match case.known_mode() {
-            Some(mode) => {
-                compare_room(&mut room_in(mode), mode, case);
-                compare_room(&mut shared[mode as usize], mode, case);
-                strict += usize::from(mode == Mode::Strict);
+        match shared.iter_mut().find(|(setting, _)| case.setting() == Some(*setting)) {
+            Some((setting, room)) => {
+                compare_room(&mut setting.room(), *setting, case);
+                compare_room(room, *setting, case);
+                strict += usize::from(setting.mode == Mode::Strict);
+                second += usize::from(setting.edition == Edition::Second);
             }
-            // A room has no such mode to give; that the archive answers so is for the test above.
-            None => assert_eq!(case.answer, [36, 0, 0, 0, 0], "line {}", case.line),
+            // A room has no such mode or edition to give; that the archive answers so is for the test above.
+            None => assert!(matches!(case.answer, [36 | 38, 0, 0, 0, 0]), "line {}", case.line),
         }
         match case.answer[0] {
             32..=35 => grown += 1,
-            36 => {}
+            36 | 38 => {}
             _ => compared += 1,
         }
     }
-    println!("{} cases compared, {} more whose own tables were too small; {} of them all are strict", compared, grown, strict);
+    println!("{} cases compared, {} more whose own tables were too small", compared, grown);
+    println!("{} cases of them all are strict, {} are bodies in the second edition", strict, second);
     assert!(compared + grown >= FEWEST && grown >= 200, "only {} and {} cases", compared, grown);
-    assert!(strict >= FEWEST_STRICT, "only {} strict cases", strict);
+    assert!(strict >= FEWEST_STRICT && second >= FEWEST_SECOND, "only {} and {} cases", strict, second);
 }
 
 /// A room's tables are always large enough, so it answers like the archive with such tables; where the case's own were, that
 /// has to be the case's answer.
-fn compare_room(room: &mut Room, mode: Mode, case: &Case) {
-    let (answer, lists) = case.call_with_enough(mode);
+fn compare_room(room: &mut Room, setting: Setting, case: &Case) {
+    let (answer, lists) = case.call_with_enough(setting);
     match case.answer[0] {
         number @ 32..=34 => {
             let table = usize::try_from(number - 32).expect("0, 1 or 2");

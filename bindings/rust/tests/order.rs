@@ -4,11 +4,14 @@
 mod common;
 
 use common::Source;
-use simmerotter::{raw, Mode};
+use simmerotter::{raw, Edition, Mode};
 
 const GUARD: u32 = 0xdead_beef;
 const GUARDS: usize = 64;
 const FILLS: [u32; 4] = [0x1111_1111, 0x2222_2222, 0x3333_3333, 0x4444_4444];
+
+/// The edition of bodies that have no plain length, or whose length is not what is tried.
+const FIRST: u32 = Edition::First as u32;
 
 /// A lent list between guard words.
 struct Guarded {
@@ -87,13 +90,13 @@ impl Call {
     }
 
     fn body(text: &[u8], tokens: &[u32], start: usize, lengths: [usize; 4]) -> Call {
-        Call::body_in(Mode::Lenient.number(), text, tokens, start, lengths)
+        Call::body_in(Mode::Lenient.number(), FIRST, text, tokens, start, lengths)
     }
 
-    fn body_in(mode: u32, text: &[u8], tokens: &[u32], start: usize, lengths: [usize; 4]) -> Call {
+    fn body_in(mode: u32, edition: u32, text: &[u8], tokens: &[u32], start: usize, lengths: [usize; 4]) -> Call {
         let mut call = Call::new(lengths);
         let (kept, statements, arguments) = (call.kept.lent(), call.statements.lent(), call.arguments.lent());
-        call.answer = raw::read_body(mode, text, tokens, start, kept, statements, arguments);
+        call.answer = raw::read_body(mode, edition, text, tokens, start, kept, statements, arguments);
         assert!(call.definitions.is_untouched());
         call.checked()
     }
@@ -104,7 +107,7 @@ impl Call {
         self
     }
 
-    /// After 30, 31, 35 and 36 nothing lent has changed.
+    /// After 30, 31, 35, 36 and 38 nothing lent has changed.
     fn assert_untouched(&self) {
         assert!(self.kept.is_untouched() && self.definitions.is_untouched());
         assert!(self.statements.is_untouched() && self.arguments.is_untouched());
@@ -289,12 +292,12 @@ fn the_mode_arrives_whole() {
     for mode in Mode::ALL {
         let file = Call::file_in(mode.number(), &source.text, &source.tokens, EXACT);
         assert_eq!(file.answer, [0, 36, 3, 4, 5]);
-        let body = Call::body_in(mode.number(), &source.text, &source.tokens, BODY_START, BODY_EXACT);
+        let body = Call::body_in(mode.number(), FIRST, &source.text, &source.tokens, BODY_START, BODY_EXACT);
         assert_eq!(body.answer, [0, 36, 4, 2, u64::from(NONE)]);
     }
     for mode in [2, 3, 0x100, 0x101, 0x1_0000, 0x8000_0000, u32::MAX] {
         let file = Call::file_in(mode, &source.text, &source.tokens, EXACT);
-        let body = Call::body_in(mode, &source.text, &source.tokens, BODY_START, BODY_EXACT);
+        let body = Call::body_in(mode, FIRST, &source.text, &source.tokens, BODY_START, BODY_EXACT);
         for call in [file, body] {
             assert_eq!(call.answer, [36, 0, 0, 0, 0]);
             call.assert_untouched();
@@ -302,14 +305,46 @@ fn the_mode_arrives_whole() {
     }
 }
 
-/// The list is not well formed, the kept list is too short and the start lies outside: each has its number, behind 36.
+/// Numbers of no edition; the larger ones have the bytes of one at one end.
+const UNKNOWN_EDITIONS: [u32; 9] = [0, 3, 0x100, 0x101, 0x102, 0x1_0001, 0x1_0002, 0x0200_0000, u32::MAX];
+
+#[test]
+fn the_edition_arrives_whole() {
+    let zeros = Source::of_lines(&["{ 0x00 ~a : 0x0 op60 0x00 }"]);
+    let read = |edition| Call::body_in(Mode::Lenient.number(), edition, &zeros.text, &zeros.tokens, 0, [9, 17, 5 * 8, 5]);
+    for (edition, length) in Edition::ALL.into_iter().zip([7, 5]) {
+        assert_eq!(read(edition.number()).answer, [0, 8, 5, 0, length]);
+    }
+    for edition in UNKNOWN_EDITIONS {
+        let call = read(edition);
+        assert_eq!(call.answer, [38, 0, 0, 0, 0]);
+        call.assert_untouched();
+    }
+}
+
+/// The list is not well formed, the kept list is too short and the start lies outside, and there is no such edition: each has its
+/// number, behind 36.
 #[test]
 fn an_unknown_mode_comes_before_every_other_refusal() {
     let source = source();
     for tokens in [&source.tokens[..], &source.tokens[1..], &[]] {
         let file = Call::file_in(2, &source.text, tokens, [0; 4]);
-        let body = Call::body_in(2, &source.text, tokens, usize::MAX, [0; 4]);
-        assert_eq!((file.answer, body.answer), ([36, 0, 0, 0, 0], [36, 0, 0, 0, 0]));
+        let body = |edition| Call::body_in(2, edition, &source.text, tokens, usize::MAX, [0; 4]).answer;
+        assert_eq!((file.answer, body(FIRST)), ([36, 0, 0, 0, 0], [36, 0, 0, 0, 0]));
+        assert_eq!(UNKNOWN_EDITIONS.map(body), [[36, 0, 0, 0, 0]; 9]);
+    }
+}
+
+/// The same lists, with the number that they have in an edition.
+#[test]
+fn an_unknown_edition_comes_before_every_refusal_but_that() {
+    let source = source();
+    for (tokens, number, cursor) in [(&source.tokens[..], 35, 37), (&source.tokens[1..], 30, 0), (&[], 30, 0)] {
+        for mode in Mode::ALL {
+            let body = |edition| Call::body_in(mode.number(), edition, &source.text, tokens, usize::MAX, [0; 4]).answer;
+            assert_eq!(UNKNOWN_EDITIONS.map(body), [[38, 0, 0, 0, 0]; 9]);
+            assert_eq!(Edition::ALL.map(|edition| body(edition.number())), [[number, cursor, 0, 0, 0]; 2]);
+        }
     }
 }
 
@@ -317,7 +352,7 @@ fn an_unknown_mode_comes_before_every_other_refusal() {
 fn a_repeated_label_is_refused_behind_the_kept_list_and_before_the_tables() {
     let strict = Mode::Strict.number();
     let body = Source::of_lines(&["{ ~a : ~b : ~a : }"]);
-    let read = |lengths| Call::body_in(strict, &body.text, &body.tokens, 0, lengths);
+    let read = |lengths| Call::body_in(strict, FIRST, &body.text, &body.tokens, 0, lengths);
     assert_eq!(read([8, 17, 24, 7]).answer, [35, 9, 0, 0, 0]);
     let file = Source::of_lines(&["#define macro M ( ) = { ~a : ~a : }"]);
     for tables in [[17, 25, 8], [0, 0, 0]] {

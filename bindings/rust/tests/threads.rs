@@ -2,13 +2,10 @@
 
 mod common;
 
-use common::{cases, room_in, Case, Lists, Source};
+use common::{cases, room_in, Case, Chance, Left, Source};
 use simmerotter::{Mode, Room};
 use std::sync::{Arc, Barrier};
 use std::thread;
-
-/// What a call left.
-type Left = ([u64; 5], Lists);
 
 /// Every thread reads the whole list so often.
 const ROUNDS: usize = 3;
@@ -23,9 +20,23 @@ fn four_threads_answer_like_one() {
     assert_threads_answer_like_one(4);
 }
 
+/// A case, and the edition in which it is read in place of its own, which need not be one.
+struct Asked {
+    case: Case,
+    edition: u32,
+}
+
+impl Asked {
+    fn call(&self) -> Left {
+        self.case.call_in(self.edition)
+    }
+}
+
 fn assert_threads_answer_like_one(count: usize) {
-    let cases = Arc::new(cases());
-    let alone: Arc<Vec<Left>> = Arc::new(cases.iter().map(Case::call).collect());
+    let mut chance = Chance::new(3);
+    let asked = cases().into_iter().map(|case| Asked { case, edition: chance.edition() });
+    let cases: Arc<Vec<Asked>> = Arc::new(asked.collect());
+    let alone: Arc<Vec<Left>> = Arc::new(cases.iter().map(Asked::call).collect());
     let start = Arc::new(Barrier::new(count));
     let threads: Vec<_> = (0..count)
         .map(|thread| {
@@ -42,11 +53,11 @@ fn assert_threads_answer_like_one(count: usize) {
 }
 
 /// Starts at another case in each thread, so that files and bodies of all sorts are read at the same time.
-fn compare(cases: &[Case], alone: &[Left], offset: usize) -> usize {
+fn compare(cases: &[Asked], alone: &[Left], offset: usize) -> usize {
     let order = (0..ROUNDS * cases.len()).map(|index| (offset + index) % cases.len());
     order
         .map(|index| {
-            assert_eq!(cases[index].call(), alone[index], "line {}", cases[index].line);
+            assert_eq!(cases[index].call(), alone[index], "line {}", cases[index].case.line);
         })
         .count()
 }

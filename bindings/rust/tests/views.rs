@@ -239,11 +239,11 @@ fn numbers_and_names_belong_together() {
     }
     assert_eq!(Kind::from_number(46), None);
     let numbers: Vec<_> = Refusal::ALL.iter().map(|refusal| refusal.number()).collect();
-    let wanted: Vec<_> = (1..=13).chain(20..=22).chain(30..=36).collect();
+    let wanted: Vec<_> = (1..=13).chain(20..=22).chain(30..=36).chain([38]).collect();
     assert_eq!(numbers, wanted);
     for refusal in Refusal::ALL {
         assert_eq!(Refusal::from_number(refusal.number()), Some(refusal));
         assert_eq!(refusal.name(), format!("{:?}", refusal));
     }
-    assert_eq!([0, 14, 23, 29, 37].map(Refusal::from_number), [None; 5]);
+    assert_eq!([0, 14, 23, 29, 37, 39].map(Refusal::from_number), [None; 6]);
 }

@@ -26,6 +26,14 @@ pub fn run<S: AsRef<OsStr>>(arguments: &[S]) -> Run {
     Run { out: String::from_utf8(done.stdout).unwrap(), err: String::from_utf8(done.stderr).unwrap(), status: done.status.code() }
 }
 
+/// The message of wrong usage, without the hint that follows it.
+pub fn wrong(arguments: &[&str]) -> String {
+    let found = run(arguments);
+    assert_eq!((found.status, found.out.as_str()), (Some(2), ""), "{:?}", arguments);
+    let hint = "\nsimmerotter --help explains the usage.\n";
+    found.err.strip_suffix(hint).expect("no hint").to_string()
+}
+
 /// A path for this test alone.
 pub fn path(name: &str) -> PathBuf {
     PathBuf::from(env!("CARGO_TARGET_TMPDIR")).join(name)
@@ -145,7 +153,9 @@ fn token<'w>(word: &'w str, next: Option<&&str>) -> (Kind, &'w str, u32) {
         "uint256" | "address" => Kind::PrimitiveType,
         "stop" => return (Kind::Opcode, word, 0),
         "dup1" => return (Kind::Opcode, word, 0x80),
+        "push0" => return (Kind::Opcode, word, 0x5f),
         "push1" => return (Kind::Opcode, word, 0x60),
+        "push2" => return (Kind::Opcode, word, 0x61),
         "push4" => return (Kind::Opcode, word, 0x63),
         _ if word.starts_with("0x") => Kind::Literal,
         _ if word.starts_with('"') => return (Kind::Str, word.trim_matches('"'), 0),

@@ -40,7 +40,7 @@ fn has_room(line: Line, sizes: Sizes) -> bool {
         && sizes.arguments as usize <= ARGUMENTS_ROOM
 }
 
-// Asks the case's entry in its mode, with each list lent as long as the case says.
+// Asks the case's entry in its mode and edition, with each list lent as long as the case says.
 fn ask(
     line: Line,
     sizes: Sizes,
@@ -57,6 +57,7 @@ fn ask(
     if line.body {
         simmerotter_read_body(
             sizes.mode,
+            sizes.edition,
             text,
             tokens,
             sizes.start as usize,

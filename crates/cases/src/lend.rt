@@ -6,9 +6,11 @@ use crate::room::least;
 // What every lent word holds before the call, so that a word left alone can be told from one written.
 const FILLER: u32 = 2779096485;
 
-// The numbers before the words, in the order in which a line has them: the call's mode, a body's place, and the lengths of the four lists.
+// The numbers before the words, in the order in which a line has them: the call's mode, a body's edition, its place, and the lengths of the four lists.
 pub struct Sizes {
     pub mode: u32,
+    // 0 for a file, which has none.
+    pub edition: u32,
     pub start: u32,
     pub kept: u32,
     pub definitions: u32,
@@ -19,11 +21,12 @@ pub struct Sizes {
 pub fn sizes_of(numbers: &[u32; NUMBERS_ROOM]) -> Sizes {
     Sizes {
         mode: numbers[0],
-        start: numbers[1],
-        kept: numbers[2],
-        definitions: numbers[3],
-        statements: numbers[4],
-        arguments: numbers[5],
+        edition: numbers[1],
+        start: numbers[2],
+        kept: numbers[3],
+        definitions: numbers[4],
+        statements: numbers[5],
+        arguments: numbers[6],
     }
 }
 

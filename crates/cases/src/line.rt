@@ -5,23 +5,28 @@ use crate::room::TEXT_ROOM;
 use tokens::digit_value;
 use tokens::is_hex;
 
-// Where in a line its next byte stands: at ENTRY, in the six numbers from MODE to ARGS, in TEXT, in WORDS. An END is behind ENTRY's letter or behind a `-`.
+// Where in a line its next byte stands: at ENTRY, in the seven numbers from MODE to ARGS, in TEXT, in WORDS. An END is behind ENTRY's letter or behind a `-`.
 const ENTRY: usize = 0;
 
 const ENTRY_END: usize = 1;
 
 const NUMBERS: usize = 2;
 
-const TEXT: usize = 3;
+const EDITION_END: usize = 3;
 
-const TEXT_END: usize = 4;
+const TEXT: usize = 4;
 
-const WORDS: usize = 5;
+const TEXT_END: usize = 5;
 
-const WORDS_END: usize = 6;
+const WORDS: usize = 6;
+
+const WORDS_END: usize = 7;
 
 // The line is no case, and is only read to its end.
-pub const REFUSED: usize = 7;
+pub const REFUSED: usize = 8;
+
+// How many numbers stand before EDITION.
+const BEFORE_EDITION: usize = 1;
 
 // A number has at most so many digits, and is at most what 32 bits hold.
 const MOST_DIGITS: usize = 10;
@@ -81,7 +86,7 @@ fn read_entry(mut line: Line, byte: u8) -> Line {
     refused(line)
 }
 
-// The one space behind ENTRY's letter, or behind the text's `-`.
+// The one space behind ENTRY's letter, or behind the `-` of a file's edition or of the text.
 fn read_space(line: Line, byte: u8, next: usize) -> Line {
     if byte == b' ' {
         return at_place(line, next);
@@ -130,8 +135,25 @@ fn keep_number(mut line: Line, numbers: &mut [u32; NUMBERS_ROOM]) -> Line {
     line
 }
 
-// Six numbers, each with a space behind it.
+// EDITION of a file: `-` and no number.
+fn read_no_edition(line: Line, byte: u8) -> Line {
+    if byte == b'-' {
+        return at_place(line, EDITION_END);
+    }
+    refused(line)
+}
+
+// The space behind that `-`: 0 is kept in the edition's place.
+fn end_no_edition(mut line: Line, byte: u8, numbers: &mut [u32; NUMBERS_ROOM]) -> Line {
+    line.digits = 1;
+    keep_number(read_space(line, byte, NUMBERS), numbers)
+}
+
+// Seven numbers, each with a space behind it; a file has none in the edition's place.
 fn read_numbers(line: Line, byte: u8, numbers: &mut [u32; NUMBERS_ROOM]) -> Line {
+    if line.numbers == BEFORE_EDITION && !line.body {
+        return read_no_edition(line, byte);
+    }
     if byte != b' ' {
         return read_digit(line, byte);
     }
@@ -237,6 +259,7 @@ pub fn read_byte(
         ENTRY => read_entry(line, byte),
         ENTRY_END => read_space(line, byte, NUMBERS),
         NUMBERS => read_numbers(line, byte, numbers),
+        EDITION_END => end_no_edition(line, byte, numbers),
         TEXT => read_text(line, byte, text),
         TEXT_END => read_space(line, byte, WORDS),
         WORDS => read_words(line, byte, numbers),

@@ -3,8 +3,8 @@ ghost use Prim.Native.Nat.{_≤_};
 
 pub const TEXT_ROOM: usize = 1048577;
 
-// Where the words of the token list begin among the numbers of a line: behind MODE, START, KEPT, DEFS, STMTS and ARGS.
-pub const FIRST_WORD: usize = 6;
+// Where the words of the token list begin among the numbers of a line: behind MODE, EDITION, START, KEPT, DEFS, STMTS and ARGS.
+pub const FIRST_WORD: usize = 7;
 
 pub const TOKENS_ROOM: usize = 262148;
 

@@ -57,34 +57,34 @@ pub data Says (mode : ℕ) (text words kept definitions statements arguments : L
   says-36 : isMode mode ≡ false → Says mode text words kept definitions statements arguments (refusal number.UnknownMode 0)
   says-30 : {at : ℕ} → isMode mode ≡ true → ¬ WellFormed text words → Says mode text words kept definitions statements arguments (refusal number.NotWellFormed at)
   says-35 : isMode mode ≡ true → WellFormed text words → length kept < length (keptOf words) → Says mode text words kept definitions statements arguments (refusal number.KeptTooShort (length (keptOf words)))
-  says-refused : {c q : ℕ} → Through mode text words 0 kept → ReadingNumber c → fileReading mode text words ≡ refused c q → Says mode text words kept definitions statements arguments (refusal c q)
+  says-refused : {c q : ℕ} → Through (isMode mode ≡ true) text words 0 kept → ReadingNumber c → fileReading mode text words ≡ refused c q → Says mode text words kept definitions statements arguments (refusal c q)
   says-32 : (n : ℕ) (ds : List Definition)
-      → Through mode text words 0 kept
+      → Through (isMode mode ≡ true) text words 0 kept
       → IsFile mode text words n ds
       → length definitions / definitionWidth < length ds
       → Says mode text words kept definitions statements arguments (refusal number.DefinitionsTooSmall (length ds))
   says-33 : (n : ℕ) (ds : List Definition)
-      → Through mode text words 0 kept
+      → Through (isMode mode ≡ true) text words 0 kept
       → IsFile mode text words n ds
       → length ds ≤ length definitions / definitionWidth
       → length statements / statementWidth < fileStatementCount ds
       → Says mode text words kept definitions statements arguments (refusal number.StatementsTooSmall (fileStatementCount ds))
   says-34 : (n : ℕ) (ds : List Definition)
-      → Through mode text words 0 kept
+      → Through (isMode mode ≡ true) text words 0 kept
       → IsFile mode text words n ds
       → length ds ≤ length definitions / definitionWidth
       → fileStatementCount ds ≤ length statements / statementWidth
       → length arguments / argumentWidth < length (fileArguments ds)
       → Says mode text words kept definitions statements arguments (refusal number.ArgumentsTooSmall (length (fileArguments ds)))
   says-read : (n : ℕ) (ds : List Definition)
-      → Through mode text words 0 kept
+      → Through (isMode mode ≡ true) text words 0 kept
       → IsFile mode text words n ds
       → Room definitions statements arguments ds
       → Says mode text words kept definitions statements arguments (fileNumbers (read ds n))
 
 module _ (mode : ℕ) (text words kept definitions statements arguments : List ℕ) where
   -- behind the door
-  reading-says : Through mode text words 0 kept → (x : Answer (List Definition)) → fileReading mode text words ≡ x
+  reading-says : Through (isMode mode ≡ true) text words 0 kept → (x : Answer (List Definition)) → fileReading mode text words ≡ x
       → Says mode text words kept definitions statements arguments (afterReading x (length definitions) (length statements) (length arguments))
   unfolding afterReading
   reading-says l (refused c q) e = says-refused l (file-ours (rulesOf mode) true (keptTokens text words) c q e) e
@@ -143,7 +143,7 @@ module _ {mode : ℕ} {text words kept definitions statements arguments : List �
 
   -- an accepted call was let through at the door and has read a file that follows the grammar, and the tables had room for its records
   pub record Accepted : Type 0 where
-    pub through : Through mode text words 0 kept
+    pub through : Through (isMode mode ≡ true) text words 0 kept
     pub n : ℕ
     pub ds : List Definition
     pub follows : IsFile mode text words n ds
@@ -165,7 +165,7 @@ module _ {mode : ℕ} {text words kept definitions statements arguments : List �
 
   -- refused by the reading: the door let the call through, and the reader gives this number and cursor
   pub record RefusedThere (c q : ℕ) : Type 0 where
-    pub through : Through mode text words 0 kept
+    pub through : Through (isMode mode ≡ true) text words 0 kept
     pub reads : fileReading mode text words ≡ refused c q
 
   pub refused-there : (c q : ℕ) → values r ≡ refusal c q → ReadingNumber c → RefusedThere c q

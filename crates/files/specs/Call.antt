@@ -14,7 +14,7 @@ use Rattle.grammar.specs.Rules.{rulesOf}
 use Rattle.grammar.specs.FileReading.{Definition}
 use Rattle.grammar.specs.FileReader.{fileAt}
 use Rattle.grammar.specs.FileRecords.{definitionRecords, fileStatements, fileArguments, fileArgumentRecords, fileStatementCount}
-use Rattle.grammar.specs.Call.{ReadingNumber, refusal, fileNumbers, entrance, afterDoor, recordsOf, heldAfter}
+use Rattle.grammar.specs.Call.{ReadingNumber, refusal, fileNumbers, fileEntrance, afterDoor, recordsOf, heldAfter}
 use Rattle.files.specs.declared.entry.File.{File}
 use Rattle.files.specs.declared.entry.File.the-variants.{UnknownMode, NotWellFormed, KeptTooShort, Refused, DefinitionsTooSmall, StatementsTooSmall, ArgumentsTooSmall, Read}
 
@@ -60,13 +60,13 @@ fileReading mode text words = fileAt (rulesOf mode) true (keptTokens text words)
 -- 36, 30, 35, then the reading. From start 0 the door never gives 31 (`file-not-31`)
 abbrev pub fileAnswered : ℕ → List ℕ → List ℕ → ℕ → ℕ → ℕ → ℕ → List ℕ
 fileAnswered mode text words kept definitions statements arguments =
-    afterDoor (entrance mode text words 0 kept) (afterReading (fileReading mode text words) definitions statements arguments)
+    afterDoor (fileEntrance mode text words kept) (afterReading (fileReading mode text words) definitions statements arguments)
 
 -- the promise: the answer r by its numbers, and the kept list and the three tables afterwards
 pub record FileCall (mode : ℕ) (text words kept definitions statements arguments : List ℕ) (r : File) (kept′ definitions′ statements′ arguments′ : List ℕ) : Type 0 where
   pub answer : values r ≡ fileAnswered mode text words (length kept) (length definitions) (length statements) (length arguments)
   pub own : Own r
-  pub list : kept′ ≡ keptAfter (entrance mode text words 0 (length kept) .0) words kept
+  pub list : kept′ ≡ keptAfter (fileEntrance mode text words (length kept) .0) words kept
   pub definitionsHold : definitions′ ≡ heldAfter (numberOf r) (recordsOf (definitionRecords 0 0) (fileReading mode text words)) definitions
   pub statementsHold : statements′ ≡ heldAfter (numberOf r) (recordsOf (fileStatements 0 0) (fileReading mode text words)) statements
   pub argumentsHold : arguments′ ≡ heldAfter (numberOf r) (recordsOf fileArgumentRecords (fileReading mode text words)) arguments

@@ -46,4 +46,4 @@ file-ours m names kept c q e =
 pub held-refused : (c : ℕ) (rs : List (List ℕ)) (lent : List ℕ) → ReadingNumber c → heldAfter c rs lent ≡ filled (length lent) []
 unfolding heldAfter
 held-refused c rs lent h =
-    rw (ne-eqb c 30 (λ e. omega (arith, h .1)), ne-eqb c 31 (λ e. omega (arith, h .1)), ne-eqb c 35 (λ e. omega (arith, h .1)), ne-eqb c 36 (λ e. omega (arith, h .1)), ne-eqb c 0 (λ e. omega (arith, h .0)))
+    rw (ne-eqb c 30 (λ e. omega (arith, h .1)), ne-eqb c 31 (λ e. omega (arith, h .1)), ne-eqb c 35 (λ e. omega (arith, h .1)), ne-eqb c 36 (λ e. omega (arith, h .1)), ne-eqb c 38 (λ e. omega (arith, h .1)), ne-eqb c 0 (λ e. omega (arith, h .0)))

@@ -1,20 +1,20 @@
 -- What both calls say alike: the five numbers of an answer, and what a lent table holds afterwards.
 use Prim.Native.Nat.{ℕ, _+_, _-_, _<_}
-use mathlib.Core.Bool.{cond, _||_}
+use mathlib.Core.Bool.{Bool, cond, _||_}
 use mathlib.Core.List.{List, [], _∷_, _++_, flatten}
 use lib.ListN.{length, replicate}
 use lib.Dec.{eqb}
-use Rattle.tokens.specs.Number.{NotWellFormed, StartOutside, KeptTooShort, UnknownMode}
+use Rattle.tokens.specs.Number.{NotWellFormed, StartOutside, KeptTooShort, UnknownMode, UnknownEdition}
 use Rattle.tokens.specs.Door.{door}
 use Rattle.grammar.specs.Rules.{isMode}
 use Rattle.grammar.specs.Reading.{Reading}
 use Rattle.grammar.specs.Records.{statementCount, argumentCount}
-use Rattle.grammar.specs.PlainLength.{plainLength}
+use Rattle.grammar.specs.PlainLength.{isEdition, plainLength}
 use Rattle.grammar.specs.FileReading.{Definition}
 use Rattle.grammar.specs.FileRecords.{fileArguments, fileStatementCount}
 use Rattle.grammar.specs.Result.{Answer, read, refused}
 
--- the numbers kept for a reading's refusals: above an accepted call's 0, below those of the door and of the room
+-- the numbers kept for a reading's refusals: above an accepted call's 0, below those of the door, of the room and of what the caller chooses
 abbrev pub ReadingNumber : ℕ → Type 0
 ReadingNumber c = (0 < c) × (c < NotWellFormed)
 
@@ -22,20 +22,29 @@ ReadingNumber c = (0 < c) × (c < NotWellFormed)
 abbrev pub refusal : ℕ → ℕ → List ℕ
 refusal c q = c ∷ q ∷ 0 ∷ 0 ∷ 0 ∷ []
 
--- a body call from a start, where the tables have room: number (0 accepted), cursor, statements, arguments, plain length
-abbrev pub bodyNumbers : ℕ → Answer Reading → List ℕ
-bodyNumbers start (read r n) = 0 ∷ (start + n) ∷ statementCount r ∷ argumentCount r ∷ plainLength r ∷ []
-bodyNumbers start (refused c q) = refusal c q
+-- a body call from a start, where the tables have room: number (0 accepted), cursor, statements, arguments, plain length; `short`: one
+-- byte pushes a zero
+abbrev pub bodyNumbers : Bool → ℕ → Answer Reading → List ℕ
+bodyNumbers short start (read r n) = 0 ∷ (start + n) ∷ statementCount r ∷ argumentCount r ∷ plainLength short r ∷ []
+bodyNumbers short start (refused c q) = refusal c q
 
 -- a file call: number, cursor, definitions, statements, arguments
 abbrev pub fileNumbers : Answer (List Definition) → List ℕ
 fileNumbers (read ds n) = 0 ∷ n ∷ length ds ∷ fileStatementCount ds ∷ length (fileArguments ds) ∷ []
 fileNumbers (refused c q) = refusal c q
 
--- number and cursor of a call that is turned away before it reads: 36 for a mode that there is not, "before 30", cursor 0; then the door's 30, 35 and 31; let
--- through, 0 and the kept count
-abbrev pub entrance : ℕ → List ℕ → List ℕ → ℕ → ℕ → ℕ × ℕ
-entrance mode text words start room = cond (isMode mode) (door text words start room) (UnknownMode, 0)
+-- a number that the caller chooses: this refusal, cursor 0, if there is none such; else what comes next
+abbrev pub chosen : Bool → ℕ → ℕ × ℕ → ℕ × ℕ
+chosen isOne c next = cond isOne next (c, 0)
+
+-- number and cursor of a call that is turned away before it reads; let through, 0 and the kept count. Of a file call: 36 for a mode that there is not, "before
+-- 30", then the door's 30 and 35
+abbrev pub fileEntrance : ℕ → List ℕ → List ℕ → ℕ → ℕ × ℕ
+fileEntrance mode text words room = chosen (isMode mode) UnknownMode (door text words 0 room)
+
+-- of a body call: 36; 38 for an edition that there is not, "after 36 and before 30"; then 30, 35 and 31
+abbrev pub bodyEntrance : ℕ → ℕ → List ℕ → List ℕ → ℕ → ℕ → ℕ × ℕ
+bodyEntrance mode edition text words start room = chosen (isMode mode) UnknownMode (chosen (isEdition edition) UnknownEdition (door text words start room))
 
 -- that number and cursor; let through, what the call answers then
 abbrev pub afterDoor : ℕ × ℕ → List ℕ → List ℕ
@@ -50,9 +59,9 @@ recordsOf records (refused c q) = []
 abbrev pub filled : ℕ → List (List ℕ) → List ℕ
 filled size rs = flatten rs ++ replicate (size - length (flatten rs)) 0
 
--- what a table holds after a call with this number: after 30, 31, 35 and 36 "nothing lent has changed"; accepted, "the records followed by zeros"; "after a
--- refusal only zeros"
+-- what a table holds after a call with this number: after 30, 31, 35, 36 and 38 "nothing lent has changed"; accepted, "the records followed by zeros"; "after
+-- a refusal only zeros"
 unfoldable pub heldAfter : ℕ → List (List ℕ) → List ℕ → List ℕ
 heldAfter c rs lent =
-    cond (eqb c NotWellFormed || eqb c StartOutside || eqb c KeptTooShort || eqb c UnknownMode) lent
+    cond (eqb c NotWellFormed || eqb c StartOutside || eqb c KeptTooShort || eqb c UnknownMode || eqb c UnknownEdition) lent
     (cond (eqb c 0) (filled (length lent) rs) (filled (length lent) []))

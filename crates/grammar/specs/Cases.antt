@@ -1,5 +1,5 @@
--- Document 01, "Bodies and files on both sides": the rows marked P, input and answer side by side, further bodies, and those of request [1]. Eof follows
--- each body.
+-- Document 01, "Bodies and files on both sides": the rows marked P, input and answer side by side, further bodies, and those of requests [1] and [8]. Eof
+-- follows each body.
 use Prim.Native.Nat.{ℕ, suc}
 use Prim.Native.String.{String}
 use mathlib.Core.List.{List, [], _∷_, _++_}
@@ -9,6 +9,7 @@ use Rattle.tokens.specs.Kind.{Eof, Calldata, Memory, OpenParen, CloseParen, Ope
 use Rattle.grammar.specs.Reading.{NONE, Reading}
 use Rattle.grammar.specs.Records.{statementRecords, argumentRecords}
 use Rattle.grammar.specs.Result.{Answer}
+use Rattle.grammar.specs.PlainLength.{shortZeros}
 use Rattle.grammar.specs.Call.{refusal, bodyNumbers, recordsOf}
 
 -- what a body call answers: number, cursor, statements, arguments, plain length; and the records of both tables
@@ -17,9 +18,9 @@ pub record Outcome : Type 0 where
   pub statements : List (List ℕ)
   pub arguments : List (List ℕ)
 
--- of an answer of the call at place p, where the tables have room
-abbrev pub outcome : ℕ → Answer Reading → Outcome
-outcome p x = record { answers = bodyNumbers p x; statements = recordsOf (statementRecords 0 0) x; arguments = recordsOf argumentRecords x }
+-- of an answer of the call at place p, in an edition, where the tables have room
+abbrev pub outcome : ℕ → ℕ → Answer Reading → Outcome
+outcome edition p x = record { answers = bodyNumbers (shortZeros edition) p x; statements = recordsOf (statementRecords 0 0) x; arguments = recordsOf argumentRecords x }
 
 -- a token as a row has it: of a kind whose text no rule looks at; with its text; an opcode by its byte; a number
 pub data Sketch : Type 0 where
@@ -238,4 +239,45 @@ strictRows =
     -- { go : PUSH1 go }, { go : : }: another token behind a push is 4, one that begins no item is 6 as ever
     ∷ refusedRow (word Label "go" ∷ mark Colon ∷ PUSH1 ∷ word Ident "go" ∷ []) 4 4
     ∷ refusedRow (word Label "go" ∷ mark Colon ∷ mark Colon ∷ []) 6 3
+    ∷ []
+
+-- request [8]: bodies with their lengths in edition 1 and in edition 2, of which `pick` takes one
+abbrev pub editionRows : (ℕ → ℕ → ℕ) → List Row
+editionRows pick =
+    -- { 0x00 }
+    acceptedRow (word Literal "0x00" ∷ []) (3 ∷ 1 ∷ 0 ∷ pick 2 1 ∷ [])
+    ((1 ∷ 1 ∷ 2 ∷ 1 ∷ 0 ∷ 0 ∷ 0 ∷ 1 ∷ []) ∷ [])
+    []
+    -- { 0x0000 0x01 }: the value decides, not the digits
+    ∷ acceptedRow (word Literal "0x0000" ∷ word Literal "0x01" ∷ []) (4 ∷ 2 ∷ 0 ∷ pick 4 3 ∷ [])
+    ((1 ∷ 1 ∷ 2 ∷ 1 ∷ 0 ∷ 0 ∷ 0 ∷ 1 ∷ []) ∷ (1 ∷ 2 ∷ 3 ∷ 2 ∷ 0 ∷ 0 ∷ 0 ∷ 2 ∷ []) ∷ [])
+    []
+    -- { PUSH1 0x00 }: an operand counts what its push takes
+    ∷ acceptedRow (PUSH1 ∷ word Literal "0x00" ∷ []) (4 ∷ 2 ∷ 0 ∷ pick 2 2 ∷ [])
+    ((2 ∷ 1 ∷ 2 ∷ 1 ∷ 0 ∷ 0 ∷ 0 ∷ 1 ∷ []) ∷ (1 ∷ 2 ∷ 3 ∷ 2 ∷ 0 ∷ 0 ∷ 0 ∷ 2 ∷ []) ∷ [])
+    []
+    -- { PUSH1 0x00 0x00 }
+    ∷ acceptedRow (PUSH1 ∷ word Literal "0x00" ∷ word Literal "0x00" ∷ []) (5 ∷ 3 ∷ 0 ∷ pick 4 3 ∷ [])
+    ((2 ∷ 1 ∷ 2 ∷ 1 ∷ 0 ∷ 0 ∷ 0 ∷ 1 ∷ []) ∷ (1 ∷ 2 ∷ 3 ∷ 2 ∷ 0 ∷ 0 ∷ 0 ∷ 2 ∷ []) ∷ (1 ∷ 3 ∷ 4 ∷ 3 ∷ 0 ∷ 0 ∷ 0 ∷ 3 ∷ []) ∷ [])
+    []
+    -- { go : PUSH2 0x00 0x00 }
+    ∷ acceptedRow (word Label "go" ∷ mark Colon ∷ byte 0x61 ∷ word Literal "0x00" ∷ word Literal "0x00" ∷ []) (7 ∷ 4 ∷ 0 ∷ pick 6 5 ∷ [])
+    ((5 ∷ 1 ∷ 6 ∷ 1 ∷ 3 ∷ 0 ∷ 0 ∷ 1 ∷ []) ∷ (2 ∷ 3 ∷ 4 ∷ 2 ∷ 0 ∷ 0 ∷ 0 ∷ 3 ∷ []) ∷ (1 ∷ 4 ∷ 5 ∷ 3 ∷ 0 ∷ 0 ∷ 0 ∷ 4 ∷ []) ∷ (1 ∷ 5 ∷ 6 ∷ 4 ∷ 0 ∷ 0 ∷ 0 ∷ 5 ∷ []) ∷ [])
+    []
+    -- { 0x00 [ X ] }
+    ∷ acceptedRow (word Literal "0x00" ∷ mark OpenBracket ∷ word Ident "X" ∷ mark CloseBracket ∷ []) (6 ∷ 2 ∷ 0 ∷ pick NONE NONE ∷ [])
+    ((1 ∷ 1 ∷ 2 ∷ 1 ∷ 0 ∷ 0 ∷ 0 ∷ 1 ∷ []) ∷ (6 ∷ 2 ∷ 5 ∷ 2 ∷ 0 ∷ 0 ∷ 0 ∷ 3 ∷ []) ∷ [])
+    []
+    -- { PUSH0 0x00 }: PUSH0 is no value push
+    ∷ acceptedRow (byte 0x5f ∷ word Literal "0x00" ∷ []) (4 ∷ 2 ∷ 0 ∷ pick 3 2 ∷ [])
+    ((2 ∷ 1 ∷ 2 ∷ 1 ∷ 0 ∷ 0 ∷ 0 ∷ 1 ∷ []) ∷ (1 ∷ 2 ∷ 3 ∷ 2 ∷ 0 ∷ 0 ∷ 0 ∷ 2 ∷ []) ∷ [])
+    []
+    -- { 0x00 go : 0x0 }: in the macro part and in a label
+    ∷ acceptedRow (word Literal "0x00" ∷ word Label "go" ∷ mark Colon ∷ word Literal "0x0" ∷ []) (6 ∷ 3 ∷ 0 ∷ pick 5 3 ∷ [])
+    ((1 ∷ 1 ∷ 2 ∷ 1 ∷ 0 ∷ 0 ∷ 0 ∷ 1 ∷ []) ∷ (5 ∷ 2 ∷ 5 ∷ 2 ∷ 1 ∷ 0 ∷ 0 ∷ 2 ∷ []) ∷ (1 ∷ 4 ∷ 5 ∷ 3 ∷ 0 ∷ 0 ∷ 0 ∷ 4 ∷ []) ∷ [])
+    []
+    -- { go : PUSH1 b : 0x00 }: a push without its operand
+    ∷ acceptedRow (word Label "go" ∷ mark Colon ∷ PUSH1 ∷ word Label "b" ∷ mark Colon ∷ word Literal "0x00" ∷ []) (8 ∷ 4 ∷ 0 ∷ pick NONE NONE ∷ [])
+    ((5 ∷ 1 ∷ 4 ∷ 1 ∷ 1 ∷ 0 ∷ 0 ∷ 1 ∷ []) ∷ (2 ∷ 3 ∷ 4 ∷ 2 ∷ 0 ∷ 0 ∷ 0 ∷ 3 ∷ []) ∷ (5 ∷ 4 ∷ 7 ∷ 3 ∷ 1 ∷ 0 ∷ 0 ∷ 4 ∷ []) ∷ (1 ∷ 6 ∷ 7 ∷ 4 ∷ 0 ∷ 0 ∷ 0 ∷ 6 ∷ []) ∷ [])
+    []
     ∷ []

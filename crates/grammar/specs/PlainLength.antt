@@ -1,14 +1,23 @@
--- Document 01, "Plain length, added", with request [3] of document 02: the bytes of a body.
+-- Document 01, "Plain length, added", with requests [3] and [8] of document 02: the bytes of a body, in either edition.
 use Prim.Native.Nat.{ℕ, suc, _+_}
 use mathlib.Core.Bool.{Bool, true, false, cond, not, _&&_, _||_}
-use mathlib.Core.List.{List, [], _∷_, _++_, map, flatten, sum}
+use mathlib.Core.List.{List, [], _∷_, _++_, map, flatten, sum, zipWith}
 use lib.Dec.{eqb}
-use lib.ListN.{length}
+use lib.ListN.{length, take, drop}
+use Rattle.tokens.specs.Number.{firstEdition, secondEdition}
 use Rattle.tokens.specs.Token.{Token}
 use Rattle.tokens.specs.Push.{isValuePush, pushSize, fits}
-use Rattle.tokens.specs.Literal.{literalValue, significant}
+use Rattle.tokens.specs.Literal.{literalValue, isZero, significant}
 use Rattle.grammar.specs.Reading.{Simple, Group, Reading, Sort, NONE, aLiteral, anOpcode, aLabelCall, anInvocation, aConstant, anArgumentCall, aBuiltin}
 use Rattle.grammar.specs.Records.{typeOf}
+
+-- the editions that there are
+unfoldable pub isEdition : ℕ → Bool
+isEdition edition = eqb edition firstEdition || eqb edition secondEdition
+
+-- the edition in which "one byte can push a zero"; below, `short` says whether it is that one
+abbrev pub shortZeros : ℕ → Bool
+shortZeros edition = eqb edition secondEdition
 
 -- s is of this sort, told by its type number
 abbrev pub isA : Sort → Simple → Bool
@@ -43,19 +52,23 @@ groupInstructions gs = flatten (map (λ (g : Group). instructions (g .inner)) gs
 unfoldable pub bodyInstructions : Reading → List Instruction
 bodyInstructions r = instructions (r .main) ++ groupInstructions (r .groups)
 
--- "opcode 1; .. label call 3; .. any other literal 1 plus its significant bytes"; the other sorts have none, and 0 stands for it
-abbrev pub ownBytes : Sort → Token → ℕ
-ownBytes aLiteral t = suc (significant (literalValue (t .text)))
-ownBytes anOpcode t = 1
-ownBytes aLabelCall t = 3
-ownBytes anInvocation t = 0
-ownBytes aConstant t = 0
-ownBytes anArgumentCall t = 0
-ownBytes aBuiltin t = 0
+-- of a literal that is no push's operand: "1 plus its significant bytes", and in edition 2 a zero "counts 1"
+abbrev pub literalBytes : Bool → Token → ℕ
+literalBytes short t = cond (isZero (t .text) && short) 1 (suc (significant (literalValue (t .text))))
+
+-- "opcode 1; .. label call 3; .. any other literal" as above; the other sorts have none, and 0 stands for it
+abbrev pub ownBytes : Bool → Sort → Token → ℕ
+ownBytes short aLiteral t = literalBytes short t
+ownBytes short anOpcode t = 1
+ownBytes short aLabelCall t = 3
+ownBytes short anInvocation t = 0
+ownBytes short aConstant t = 0
+ownBytes short anArgumentCall t = 0
+ownBytes short aBuiltin t = 0
 
 -- a statement's own bytes, and for its operand "n"
-abbrev pub instructionBytes : Instruction → ℕ
-instructionBytes x = ownBytes (x .statement .sort) (x .statement .token) + cond (x .withOperand) (pushSize (x .statement .token .extra)) 0
+abbrev pub instructionBytes : Bool → Instruction → ℕ
+instructionBytes short x = ownBytes short (x .statement .sort) (x .statement .token) + cond (x .withOperand) (pushSize (x .statement .token .extra)) 0
 
 -- "If any other statement occurs, NONE": these three sorts have bytes
 abbrev pub measured : Sort → Bool
@@ -81,9 +94,30 @@ every test [] = true
 every test (x ∷ xs) = test x && every test xs
 
 -- the bytes of instructions together
-abbrev pub totalBytes : List Instruction → ℕ
-totalBytes xs = sum _+_ 0 (map instructionBytes xs)
+abbrev pub totalBytes : Bool → List Instruction → ℕ
+totalBytes short xs = sum _+_ 0 (map (instructionBytes short) xs)
 
 -- the plain length of a body: "label 1 plus its items", so 1 for each label and the bytes of all instructions; NONE if one of these has no length
-unfoldable pub plainLength : Reading → ℕ
-plainLength r = cond (every hasLength (bodyInstructions r)) (length (r .groups) + totalBytes (bodyInstructions r)) NONE
+unfoldable pub plainLength : Bool → Reading → ℕ
+plainLength short r = cond (every hasLength (bodyInstructions r)) (length (r .groups) + totalBytes short (bodyInstructions r)) NONE
+
+-- ---- "the number of such zeros", by which the editions differ
+
+-- a literal whose value is zero
+abbrev pub zeroLiteral : Simple → Bool
+zeroLiteral l = isA aLiteral l && isZero (l .token .text)
+
+-- 1 for a statement that passes the test
+abbrev pub one : Bool → ℕ
+one test = cond test 1 0
+
+-- how many zero literals of a macro part or of a label are no push's operand: the first statement has none before it, so it is no operand; each of the others
+-- is seen with the statement directly before it
+unfoldable pub freeZeros : List Simple → ℕ
+freeZeros ss =
+    sum _+_ 0 (map (λ (s : Simple). one (zeroLiteral s)) (take 1 ss))
+    + sum _+_ 0 (zipWith (λ (s l : Simple). one (zeroLiteral l && not (isOperand s l))) ss (drop 1 ss))
+
+-- of a body
+unfoldable pub bodyFreeZeros : Reading → ℕ
+bodyFreeZeros r = freeZeros (r .main) + sum _+_ 0 (map (λ (g : Group). freeZeros (g .inner)) (r .groups))

@@ -18,9 +18,9 @@ one-file x y =
     (x .numbers ∙ ap files.values r ∙ sym (y .numbers), k, d, s, a)
 
 -- of `simmerotter_read_body`
-pub one-body : {mode : ℕ} {text words kept st ar n n′ k k′ s s′ a a′ : List ℕ} {start : ℕ}
-    → BodyAnswered mode text words start kept st ar n k s a
-    → BodyAnswered mode text words start kept st ar n′ k′ s′ a′
+pub one-body : {mode edition : ℕ} {text words kept st ar n n′ k k′ s s′ a a′ : List ℕ} {start : ℕ}
+    → BodyAnswered mode edition text words start kept st ar n k s a
+    → BodyAnswered mode edition text words start kept st ar n′ k′ s′ a′
     → (n ≡ n′) × (k ≡ k′) × (s ≡ s′) × (a ≡ a′)
 one-body x y =
     let (r, k, s, a) = body.one-call (x .call) (y .call) in

@@ -14,7 +14,7 @@ pub record FileAnswered (mode : ℕ) (text words kept definitions statements arg
   pub numbers : answer′ ≡ file.values given
 
 -- a body call's: an answer that `read_body` promises, with all that is lent, and its five numbers
-pub record BodyAnswered (mode : ℕ) (text words : List ℕ) (start : ℕ) (kept statements arguments answer′ kept′ statements′ arguments′ : List ℕ) : Type 0 where
+pub record BodyAnswered (mode edition : ℕ) (text words : List ℕ) (start : ℕ) (kept statements arguments answer′ kept′ statements′ arguments′ : List ℕ) : Type 0 where
   pub given : Body
-  pub call : body.BodyCall mode text words start kept statements arguments given kept′ statements′ arguments′
+  pub call : body.BodyCall mode edition text words start kept statements arguments given kept′ statements′ arguments′
   pub numbers : answer′ ≡ body.values given

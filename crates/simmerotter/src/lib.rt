@@ -25,10 +25,12 @@ pub extern "C" fn simmerotter_read_file(
     *answer = file_values(read);
 }
 
-// Reads one body in a mode from place `start` of the kept tokens: `statements::read_body`, its answer as number, cursor, statements, arguments, plain length.
+// Reads one body in a mode from place `start` of the kept tokens, and measures it in an edition, 1 or 2: `statements::read_body`, its answer as number, cursor, statements,
+// arguments, plain length.
 #[no_mangle]
 pub extern "C" fn simmerotter_read_body(
     mode: u32,
+    edition: u32,
     text: &[u8],
     tokens: &[u32],
     start: usize,
@@ -37,9 +39,18 @@ pub extern "C" fn simmerotter_read_body(
     arguments: &mut [u32],
     answer: &mut [u64; 5],
 )
-    ensures { λ _. ⌜ BodyAnswered mode (now (text .entry)) (now (tokens .entry)) start (now (kept .entry)) (now (statements .entry)) (now (arguments .entry))
+    ensures { λ _. ⌜ BodyAnswered mode edition (now (text .entry)) (now (tokens .entry)) start (now (kept .entry)) (now (statements .entry)) (now (arguments .entry))
         (now (answer .exit)) (now (kept .exit)) (now (statements .exit)) (now (arguments .exit)) ⌝ }
 {
-    let read = statements::read_body(mode, text, tokens, start, kept, statements, arguments);
+    let read = statements::read_body(
+        mode,
+        edition,
+        text,
+        tokens,
+        start,
+        kept,
+        statements,
+        arguments,
+    );
     *answer = body_values(read);
 }

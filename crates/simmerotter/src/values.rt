@@ -48,6 +48,7 @@ pub fn body_values(answer: Body) -> [u64; 5]
 {
     match answer {
         Body::UnknownMode => refusal(number::UNKNOWN_MODE, 0),
+        Body::UnknownEdition => refusal(number::UNKNOWN_EDITION, 0),
         Body::NotWellFormed(at) => refusal(number::NOT_WELL_FORMED, at),
         Body::KeptTooShort(count) => refusal(number::KEPT_TOO_SHORT, count),
         Body::StartOutside(at) => refusal(number::START_OUTSIDE, at),

@@ -27,7 +27,7 @@ use Rattle.grammar.specs.Reader.{bodyFrom, bodyAt}
 use Rattle.grammar.specs.Facts.{All}
 use Rattle.grammar.specs.Records.{statementRecords, argumentRecords, statementCount, argumentCount}
 use Rattle.grammar.specs.Call.{refusal, bodyNumbers, filled, heldAfter}
-use Rattle.grammar.specs.PlainLength.{plainLength}
+use Rattle.grammar.specs.PlainLength.{isEdition, shortZeros, plainLength}
 use Rattle.grammar.proofs.Demand.{body-exactly}
 use Rattle.grammar.proofs.Numbers.{body-ours, held-refused}
 use Rattle.grammar.proofs.Recorded.{as-many, as-wide}
@@ -35,7 +35,7 @@ use Rattle.statements.specs.declared.item.Progress.{Progress}
 use Rattle.statements.specs.declared.item.Items.{Items}
 use Rattle.statements.specs.declared.item.Items.the-variants as items
 use Rattle.statements.specs.declared.entry.Body.{Body}
-use Rattle.statements.specs.declared.entry.Body.the-variants.{UnknownMode, Refused, StatementsTooSmall, ArgumentsTooSmall, Read}
+use Rattle.statements.specs.declared.entry.Body.the-variants.{UnknownMode, UnknownEdition, Refused, StatementsTooSmall, ArgumentsTooSmall, Read}
 use Rattle.statements.specs.Answers.{Counting, BodyParsed}
 use Rattle.statements.specs.Call.{values, numberOf, Own, afterReading, BodyCall}
 use Rattle.statements.specs.Length.{lengthFrom}
@@ -62,7 +62,7 @@ none-left w t u same = cleared-none w u ∙ ap (λ (n : ℕ). replicate n 0) sam
 abbrev startProgress : ℕ → Progress
 startProgress start = record { at = start; statements = 0; arguments = 0 }
 
-module _ (st ar : List ℕ) (rd : Reading) (start n : ℕ) where
+module _ (short : Bool) (st ar : List ℕ) (rd : Reading) (start n : ℕ) where
   abbrev endProgress : Progress
   endProgress = record { at = start + n; statements = statementCount rd; arguments = argumentCount rd }
 
@@ -75,14 +75,14 @@ module _ (st ar : List ℕ) (rd : Reading) (start n : ℕ) where
 
   settled-answers : {st₁ ar₁ : List ℕ} → st₁ ≡ putAll statementWidth st 0 (statementRecords 0 0 rd) → ar₁ ≡ putAll argumentWidth ar 0 (argumentRecords rd)
       → length st₁ ≡ length st → length ar₁ ≡ length ar
-      → Answers st₁ ar₁ (settledItems (items.Done endProgress) (plainLength rd) (length st) (length ar)) (afterReading (read rd n) start (length st) (length ar))
+      → Answers st₁ ar₁ (settledItems (items.Done endProgress) (plainLength short rd) (length st) (length ar)) (afterReading short (read rd n) start (length st) (length ar))
   unfolding afterReading heldAfter
   settled-answers {st₁} {ar₁} es ea ls la = go (ltb (length st / statementWidth) (statementCount rd)) refl (ltb (length ar / argumentWidth) (argumentCount rd)) refl
     where
       go : (b : Bool) → ltb (length st / statementWidth) (statementCount rd) ≡ b → (d : Bool) → ltb (length ar / argumentWidth) (argumentCount rd) ≡ d
           → Answers st₁ ar₁
-          (cond b (StatementsTooSmall (statementCount rd)) (cond d (ArgumentsTooSmall (argumentCount rd)) (Read (start + n) (statementCount rd) (argumentCount rd) (plainLength rd))))
-          (cond b (refusal number.StatementsTooSmall (statementCount rd)) (cond d (refusal number.ArgumentsTooSmall (argumentCount rd)) (bodyNumbers start (read rd n))))
+          (cond b (StatementsTooSmall (statementCount rd)) (cond d (ArgumentsTooSmall (argumentCount rd)) (Read (start + n) (statementCount rd) (argumentCount rd) (plainLength short rd))))
+          (cond b (refusal number.StatementsTooSmall (statementCount rd)) (cond d (refusal number.ArgumentsTooSmall (argumentCount rd)) (bodyNumbers short start (read rd n))))
       go true eb d ed = record { said = refl; mine = tt; statementsLeft = none-left statementWidth st st₁ ls; argumentsLeft = none-left argumentWidth ar ar₁ la }
       go false eb true ed = record { said = refl; mine = tt; statementsLeft = none-left statementWidth st st₁ ls; argumentsLeft = none-left argumentWidth ar ar₁ la }
       go false eb false ed =
@@ -108,16 +108,16 @@ body-begins g =
     }
 
 -- what the parser read, settled
-pub body-read : (m : Rules) (text words kept : List ℕ) (start : ℕ) (st ar : List ℕ) {st₁ ar₁ st₂ ar₂ : List ℕ} {x : Items} {r : Body}
+pub body-read : (m : Rules) (short : Bool) (text words kept : List ℕ) (start : ℕ) (st ar : List ℕ) {st₁ ar₁ st₂ ar₂ : List ℕ} {x : Items} {r : Body}
     → BodyParsed (startProgress start) 0 0 (length kept) (bodyFrom m start (drop start (view text words kept))) st ar x st₁ ar₁
     → length st₁ ≡ length st
     → length ar₁ ≡ length ar
-    → Settled x (lengthFrom (view text words kept) start) st₁ ar₁ r st₂ ar₂
-    → BodyRead m text words kept start st ar r st₂ ar₂
+    → Settled x (lengthFrom short (view text words kept) start) st₁ ar₁ r st₂ ar₂
+    → BodyRead m short text words kept start st ar r st₂ ar₂
 unfolding bodyAt afterReading
-body-read m text words kept start st ar {st₁} {ar₁} {st₂} {ar₂} {x} {r} v ls la w = go (bodyFrom m start (drop start (view text words kept))) refl
+body-read m short text words kept start st ar {st₁} {ar₁} {st₂} {ar₂} {x} {r} v ls la w = go (bodyFrom m start (drop start (view text words kept))) refl
   where
-    go : (y : Res Reading) → bodyFrom m start (drop start (view text words kept)) ≡ y → BodyRead m text words kept start st ar r st₂ ar₂
+    go : (y : Res Reading) → bodyFrom m start (drop start (view text words kept)) ≡ y → BodyRead m short text words kept start st ar r st₂ ar₂
     go (bad y q) e =
         let v′ = rw e at v in
         let w′ = rw (v′ .is) at w in
@@ -132,11 +132,11 @@ body-read m text words kept start st ar {st₁} {ar₁} {st₂} {ar₂} {x} {r} 
     go (got rd k) e =
         let v′ = rw e at v in
         let w′ = rw (v′ .is) at w in
-        let long : lengthFrom (view text words kept) start ≡ plainLength rd =
-        length-is m (view text words kept) start k rd (body-exactly m (view text words kept) start k rd .0 (ap answer e)) in
-        let is : r ≡ settledItems (items.Done (endProgress st ar rd start k)) (plainLength rd) (length st) (length ar) =
+        let long : lengthFrom short (view text words kept) start ≡ plainLength short rd =
+        length-is short m (view text words kept) start k rd (body-exactly m (view text words kept) start k rd .0 (ap answer e)) in
+        let is : r ≡ settledItems (items.Done (endProgress short st ar rd start k)) (plainLength short rd) (length st) (length ar) =
         w′ .answer ∙ rw (ls, la, long, zero-add (statementCount rd), zero-add (argumentCount rd)) in
-        let told = settled-answers st ar rd start k (v′ .statementsHold) (v′ .argumentsHold) ls la in
+        let told = settled-answers short st ar rd start k (v′ .statementsHold) (v′ .argumentsHold) ls la in
         record {
           answer = ap values is ∙ told .said ∙ rw e;
           own = rw is (told .mine);
@@ -159,26 +159,32 @@ mode-unknown mode h = rw (ne-eqb mode 0 (λ e. omega arith), ne-eqb mode 1 (λ e
 
 -- ---- the call
 
--- 36: nothing lent has changed
-pub call-unknown : {mode : ℕ} {text words kept st ar : List ℕ} {start : ℕ} → isMode mode ≡ false → BodyCall mode text words start kept st ar UnknownMode kept st ar
+-- 36 and 38: nothing lent has changed
+pub call-unknown : {mode edition : ℕ} {text words kept st ar : List ℕ} {start : ℕ} → isMode mode ≡ false → BodyCall mode edition text words start kept st ar UnknownMode kept st ar
 unfolding heldAfter
 call-unknown e = record { answer = rw e; own = tt; list = rw e; statementsHold = refl; argumentsHold = refl }
 
+pub call-unmeasured : {mode edition : ℕ} {text words kept st ar : List ℕ} {start : ℕ} → isMode mode ≡ true → isEdition edition ≡ false → BodyCall mode edition text words start kept st ar UnknownEdition kept st ar
+unfolding heldAfter
+call-unmeasured e f = record { answer = rw (e, f); own = tt; list = rw (e, f); statementsHold = refl; argumentsHold = refl }
+
 -- the whole call, by the door's answer: let through, what was read
-pub call-read : {mode : ℕ} {text words kept st ar kept′ st′ ar′ : List ℕ} {start n : ℕ} {d : Door} {r : Body}
+pub call-read : {mode edition : ℕ} {text words kept st ar kept′ st′ ar′ : List ℕ} {start n : ℕ} {d : Door} {r : Body}
     → isMode mode ≡ true
+    → isEdition edition ≡ true
     → Prepared text words start kept d kept′
     → d ≡ Ready n
-    → BodyRead (rulesOf mode) text words (take (n - 0) kept′) start st ar r st′ ar′
-    → BodyCall mode text words start kept st ar r kept′ st′ ar′
-call-read {text = text} {words} {kept} {start = start} known p e v =
+    → BodyRead (rulesOf mode) (shortZeros edition) text words (take (n - 0) kept′) start st ar r st′ ar′
+    → BodyCall mode edition text words start kept st ar r kept′ st′ ar′
+call-read {text = text} {words} {kept} {start = start} known measured p e v =
     let v′ = rw (kept-part text words start kept p e .0) at v in
     let said = ap doors.values (sym e) ∙ p .answer in
-    record { answer = v′ .answer ∙ rw (known, sym said); own = v′ .own; list = p .list ∙ rw known; statementsHold = v′ .statementsHold; argumentsHold = v′ .argumentsHold }
+    record { answer = v′ .answer ∙ rw (known, measured, sym said); own = v′ .own; list = p .list ∙ rw (known, measured); statementsHold = v′ .statementsHold; argumentsHold = v′ .argumentsHold }
 
 -- 30, 35 and 31: nothing lent has changed
-pub call-refused : {mode : ℕ} {text words kept st ar kept′ : List ℕ} {start c q : ℕ} {d x : Door} {r : Body}
+pub call-refused : {mode edition : ℕ} {text words kept st ar kept′ : List ℕ} {start c q : ℕ} {d x : Door} {r : Body}
     → isMode mode ≡ true
+    → isEdition edition ≡ true
     → Prepared text words start kept x kept′
     → x ≡ d
     → doors.values d ≡ (c, q)
@@ -186,13 +192,13 @@ pub call-refused : {mode : ℕ} {text words kept st ar kept′ : List ℕ} {star
     → ((rs : List (List ℕ)) (lent : List ℕ) → heldAfter c rs lent ≡ lent)
     → values r ≡ refusal c q
     → Own r
-    → BodyCall mode text words start kept st ar r kept′ st ar
-call-refused {c = c} {q = q} known p e f z h is own =
+    → BodyCall mode edition text words start kept st ar r kept′ st ar
+call-refused {c = c} {q = q} known measured p e f z h is own =
     let said = ap doors.values (sym e) ∙ p .answer in
     record {
-      answer = is ∙ rw (known, sym said, f, z);
+      answer = is ∙ rw (known, measured, sym said, f, z);
       own = own;
-      list = p .list ∙ rw known;
+      list = p .list ∙ rw (known, measured);
       statementsHold = rw is (sym (h _ _));
       argumentsHold = rw is (sym (h _ _));
     }

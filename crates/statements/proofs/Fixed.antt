@@ -12,7 +12,7 @@ use Rattle.grammar.specs.Records.{statementRecords, argumentRecords}
 use Rattle.statements.specs.declared.item.Progress.{Progress}
 use Rattle.statements.specs.declared.item.Items.{Items}
 use Rattle.statements.specs.declared.entry.Body.{Body}
-use Rattle.statements.specs.declared.entry.Body.the-variants.{UnknownMode, NotWellFormed, KeptTooShort, StartOutside, Refused, StatementsTooSmall, ArgumentsTooSmall, Read}
+use Rattle.statements.specs.declared.entry.Body.the-variants.{UnknownMode, UnknownEdition, NotWellFormed, KeptTooShort, StartOutside, Refused, StatementsTooSmall, ArgumentsTooSmall, Read}
 use Rattle.statements.specs.Answers.{Parsed}
 use Rattle.statements.specs.Call.{values, numberOf, Own, readingAt, BodyCall}
 
@@ -27,6 +27,7 @@ one-body-answer r r′ o o′ e = sym (again r o) ∙ ap told e ∙ again r′ o
         choose (
         (0, Read (getD v 1 0) (getD v 2 0) (getD v 3 0) (getD v 4 0))
         ∷ (number.UnknownMode, UnknownMode)
+        ∷ (number.UnknownEdition, UnknownEdition)
         ∷ (number.NotWellFormed, NotWellFormed (getD v 1 0))
         ∷ (number.KeptTooShort, KeptTooShort (getD v 1 0))
         ∷ (number.StartOutside, StartOutside (getD v 1 0))
@@ -37,6 +38,7 @@ one-body-answer r r′ o o′ e = sym (again r o) ∙ ap told e ∙ again r′ o
 
     again : (r : Body) → Own r → told (values r) ≡ r
     again UnknownMode o = refl
+    again UnknownEdition o = refl
     again (NotWellFormed at) o = refl
     again (KeptTooShort count) o = refl
     again (StartOutside at) o = refl
@@ -44,6 +46,7 @@ one-body-answer r r′ o o′ e = sym (again r o) ∙ ap told e ∙ again r′ o
         rw (
           ne-eqb c 0 (λ e. omega (arith, o .0)),
           ne-eqb c 36 (λ e. omega (arith, o .1)),
+          ne-eqb c 38 (λ e. omega (arith, o .1)),
           ne-eqb c 30 (λ e. omega (arith, o .1)),
           ne-eqb c 35 (λ e. omega (arith, o .1)),
           ne-eqb c 31 (λ e. omega (arith, o .1)),
@@ -55,11 +58,11 @@ one-body-answer r r′ o o′ e = sym (again r o) ∙ ap told e ∙ again r′ o
     again (Read cursor s n size) o = refl
 
 -- the promise of `read_body`: its answer, and all that is lent
-pub one-call : {mode : ℕ} {text words kept st ar : List ℕ} {start : ℕ} {r r′ : Body} {k k′ s s′ a a′ : List ℕ}
-    → BodyCall mode text words start kept st ar r k s a
-    → BodyCall mode text words start kept st ar r′ k′ s′ a′
+pub one-call : {mode edition : ℕ} {text words kept st ar : List ℕ} {start : ℕ} {r r′ : Body} {k k′ s s′ a a′ : List ℕ}
+    → BodyCall mode edition text words start kept st ar r k s a
+    → BodyCall mode edition text words start kept st ar r′ k′ s′ a′
     → (r ≡ r′) × (k ≡ k′) × (s ≡ s′) × (a ≡ a′)
-one-call {mode} {text} {words} {st = st} {ar = ar} {start = start} {r = r} {r′ = r′} m n =
+one-call {mode} {text = text} {words} {st = st} {ar = ar} {start = start} {r = r} {r′ = r′} m n =
     let same = one-body-answer r r′ (m .own) (n .own) (m .answer ∙ sym (n .answer)) in (
       same,
       m .list ∙ sym (n .list),

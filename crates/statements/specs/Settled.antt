@@ -1,7 +1,7 @@
 -- Inner: how the entry's parts answer: the settling of what was read, and the reading of a body into the tables as they are lent.
 use Prim.Native.Nat.{ℕ, _/_}
 use mathlib.Core.Path.{_≡_}
-use mathlib.Core.Bool.{cond}
+use mathlib.Core.Bool.{Bool, cond}
 use mathlib.Core.List.{List}
 use lib.ListN.{length, getD}
 use lib.Dec.{ltb}
@@ -32,9 +32,9 @@ pub record Settled (read : Items) (long : ℕ) (statements arguments : List ℕ)
   pub statementsHold : statements′ ≡ clearedBehind statementWidth (getD (values r) 2 0) statements
   pub argumentsHold : arguments′ ≡ clearedBehind argumentWidth (getD (values r) 3 0) arguments
 
--- the body from a start of a kept list, by a rule set
-pub record BodyRead (m : Rules) (text words kept : List ℕ) (start : ℕ) (statements arguments : List ℕ) (r : Body) (statements′ arguments′ : List ℕ) : Type 0 where
-  pub answer : values r ≡ afterReading (bodyAt m (view text words kept) start) start (length statements) (length arguments)
+-- the body from a start of a kept list, by a rule set; `short`: one byte pushes a zero
+pub record BodyRead (m : Rules) (short : Bool) (text words kept : List ℕ) (start : ℕ) (statements arguments : List ℕ) (r : Body) (statements′ arguments′ : List ℕ) : Type 0 where
+  pub answer : values r ≡ afterReading short (bodyAt m (view text words kept) start) start (length statements) (length arguments)
   pub own : Own r
   pub statementsHold : statements′ ≡ heldAfter (numberOf r) (recordsOf (statementRecords 0 0) (bodyAt m (view text words kept) start)) statements
   pub argumentsHold : arguments′ ≡ heldAfter (numberOf r) (recordsOf argumentRecords (bodyAt m (view text words kept) start)) arguments

@@ -16,14 +16,16 @@ ghost use lib.ListN.{length, replicate};
 ghost use Rattle.tokens.specs.Token.{view};
 ghost use Rattle.tokens.specs.Place.{Place};
 ghost use Rattle.grammar.specs.Rules.{asks};
+ghost use Rattle.grammar.specs.PlainLength.{isEdition};
 ghost use Rattle.statements.specs.Length.{lengthFrom};
 ghost use Rattle.statements.specs.Call.{BodyCall};
 ghost use Rattle.statements.specs.Settled.{Settled, BodyRead};
 
 // What a body call answers.
 pub enum Body {
-    // 36: there is no such mode.
+    // 36 and 38: there is no such mode, no such edition.
     UnknownMode,
+    UnknownEdition,
     // 30, 35 and 31, at the door.
     NotWellFormed(usize),
     KeptTooShort(usize),
@@ -51,13 +53,14 @@ fn settle(
     text: &[u8],
     tokens: &[u32],
     kept: &[u32],
+    short: bool,
     start: usize,
     read: Items,
     statements: &mut [u32],
     arguments: &mut [u32],
 ) -> Body
     requires { ⌜ Place (now tokens) (now kept) start ⌝ }
-    ensures { λ r. ⌜ Settled read (lengthFrom (view (now (text .entry)) (now (tokens .entry)) (now (kept .entry))) start) (now (statements .entry)) (now (arguments .entry)) r (now (statements .exit)) (now (arguments .exit)) ⌝ }
+    ensures { λ r. ⌜ Settled read (lengthFrom short (view (now (text .entry)) (now (tokens .entry)) (now (kept .entry))) start) (now (statements .entry)) (now (arguments .entry)) r (now (statements .exit)) (now (arguments .exit)) ⌝ }
 {
     match read {
         Items::Refused(c, q) => {
@@ -77,7 +80,7 @@ fn settle(
             }
             clear_behind(statements, m, number::STATEMENT_WIDTH);
             clear_behind(arguments, n, number::ARGUMENT_WIDTH);
-            Body::Read(t.at, m, n, plain_length(text, tokens, kept, start))
+            Body::Read(t.at, m, n, plain_length(text, tokens, kept, short, start))
         }
     }
 }
@@ -88,12 +91,13 @@ fn reading(
     tokens: &[u32],
     kept: &[u32],
     strict: bool,
+    short: bool,
     start: usize,
     statements: &mut [u32],
     arguments: &mut [u32],
 ) -> Body
     requires { ⌜ Place (now tokens) (now kept) start ⌝ }
-    ensures { λ r. ⌜ BodyRead (asks strict) (now (text .entry)) (now (tokens .entry)) (now (kept .entry)) start (now (statements .entry)) (now (arguments .entry)) r (now (statements .exit)) (now (arguments .exit)) ⌝ }
+    ensures { λ r. ⌜ BodyRead (asks strict) short (now (text .entry)) (now (tokens .entry)) (now (kept .entry)) start (now (statements .entry)) (now (arguments .entry)) r (now (statements .exit)) (now (arguments .exit)) ⌝ }
 {
     let s = Progress {
         at: start,
@@ -108,13 +112,30 @@ fn reading(
             read = named_once(text, tokens, kept, start, read);
         }
     }
-    settle(text, tokens, kept, start, read, statements, arguments)
+    settle(
+        text,
+        tokens,
+        kept,
+        short,
+        start,
+        read,
+        statements,
+        arguments,
+    )
 }
 
-// Reads one body from place `start` of the kept tokens, strictly if the mode is 1. The mode and everything lent are tested first; only then the kept list is written, and
-// the tables.
+// One of the two editions of the plain length.
+fn is_edition(edition: u32) -> bool
+    ensures { λ r. ⌜ r ≡ isEdition edition ⌝ }
+{
+    edition == number::EDITION_FIRST || edition == number::EDITION_SECOND
+}
+
+// Reads one body from place `start` of the kept tokens, strictly if the mode is 1, and measures it in an edition. Mode, edition and everything lent are tested first; only then
+// the kept list is written, and the tables.
 pub fn read_body(
     mode: u32,
+    edition: u32,
     text: &[u8],
     tokens: &[u32],
     start: usize,
@@ -122,10 +143,13 @@ pub fn read_body(
     statements: &mut [u32],
     arguments: &mut [u32],
 ) -> Body
-    ensures { λ r. ⌜ BodyCall mode (now (text .entry)) (now (tokens .entry)) start (now (kept .entry)) (now (statements .entry)) (now (arguments .entry)) r (now (kept .exit)) (now (statements .exit)) (now (arguments .exit)) ⌝ }
+    ensures { λ r. ⌜ BodyCall mode edition (now (text .entry)) (now (tokens .entry)) start (now (kept .entry)) (now (statements .entry)) (now (arguments .entry)) r (now (kept .exit)) (now (statements .exit)) (now (arguments .exit)) ⌝ }
 {
     if number::MODE_STRICT < mode {
         return Body::UnknownMode;
+    }
+    if !is_edition(edition) {
+        return Body::UnknownEdition;
     }
     match prepare(text, tokens, start, kept) {
         Door::NotWellFormed(at) => Body::NotWellFormed(at),
@@ -136,6 +160,7 @@ pub fn read_body(
             tokens,
             &kept[0..count],
             mode == number::MODE_STRICT,
+            edition == number::EDITION_SECOND,
             start,
             statements,
             arguments,

@@ -1,6 +1,8 @@
-// The plain length of an accepted body. Only a body call answers it, so it has a walk of its own and costs a file's reading nothing.
+// The plain length of an accepted body, in either edition: `short` says that one byte pushes a zero. Only a body call answers it, so it has a walk of its own
+// and costs a file's reading nothing.
 use tokens::extra_at;
 use tokens::is_value_push;
+use tokens::is_zero;
 use tokens::kind;
 use tokens::kind_at;
 use tokens::number;
@@ -9,11 +11,11 @@ use tokens::push_size;
 use tokens::significant_bytes;
 use tokens::text_at;
 ghost use mathlib.Core.Path.{_≡_};
-ghost use Prim.Native.Nat.{ℕ, _≤_};
-ghost use mathlib.Core.List.{List};
+ghost use Prim.Native.Nat.{_≤_};
 ghost use Rattle.tokens.specs.Token.{view, tokenAt};
 ghost use Rattle.tokens.specs.Place.{KindAt, Numbered, Place};
-ghost use Rattle.statements.specs.Length.{plainKind, opcodeByte, mayFollow, tokenBytes, lengthFrom};
+ghost use Rattle.grammar.specs.PlainLength.{literalBytes};
+ghost use Rattle.statements.specs.Length.{plainKind, takenBy, ownTokenBytes, lengthFrom};
 
 // A kind that a body with a length may have between its braces.
 fn is_plain(k: u32) -> bool
@@ -29,65 +31,73 @@ fn is_plain(k: u32) -> bool
     }
 }
 
-// The byte of the token at p, whose kind is k, if it is an opcode; 0, which is no push's, if not.
-fn opcode_byte(tokens: &[u32], kept: &[u32], p: usize, k: u32) -> u32
+// Whether the token at p, whose kind is k, is the operand of a value push of this byte: a literal that fits.
+fn is_operand(text: &[u8], tokens: &[u32], kept: &[u32], byte: u32, p: usize, k: u32) -> bool
     requires { ⌜ Numbered (now tokens) (now kept) ⌝ }
     requires { ⌜ KindAt (now tokens) (now kept) p k ⌝ }
-    ensures { λ r. ⌜ ((text : List ℕ) → r ≡ opcodeByte (tokenAt (view text (now (tokens .entry)) (now (kept .entry))) p)) ⌝ }
+    ensures { λ r. ⌜ r ≡ takenBy byte (tokenAt (view (now (text .entry)) (now (tokens .entry)) (now (kept .entry))) p) ⌝ }
 {
-    if k != kind::OPCODE {
-        return 0;
-    }
-    extra_at(tokens, kept, p)
-}
-
-// Whether the token at p, whose kind is k, may stand behind an opcode of this byte: behind a value push only its operand, a literal that fits.
-fn may_follow(text: &[u8], tokens: &[u32], kept: &[u32], byte: u32, p: usize, k: u32) -> bool
-    requires { ⌜ Numbered (now tokens) (now kept) ⌝ }
-    requires { ⌜ KindAt (now tokens) (now kept) p k ⌝ }
-    ensures { λ r. ⌜ r ≡ mayFollow byte (tokenAt (view (now (text .entry)) (now (tokens .entry)) (now (kept .entry))) p) ⌝ }
-{
-    if !is_value_push(byte) {
-        return true;
-    }
     if k != kind::LITERAL {
         return false;
     }
     !push_overflows(byte, text_at(text, tokens, kept, p))
 }
 
-// The bytes of the token at p, whose kind is k, behind an opcode of this byte: a push's operand has the bytes that the push takes.
-fn token_bytes(text: &[u8], tokens: &[u32], kept: &[u32], byte: u32, p: usize, k: u32) -> usize
+// The bytes of the literal at p that is no push's operand.
+fn literal_bytes(text: &[u8], tokens: &[u32], kept: &[u32], short: bool, p: usize) -> usize
+    requires { ⌜ Numbered (now tokens) (now kept) ⌝ }
+    ensures { λ r. ⌜ r ≡ literalBytes short (tokenAt (view (now (text .entry)) (now (tokens .entry)) (now (kept .entry))) p) ⌝ }
+{
+    let literal = text_at(text, tokens, kept, p);
+    if short && is_zero(literal) {
+        return 1;
+    }
+    significant_bytes(literal) + 1
+}
+
+// The bytes of the token at p, whose kind is k, where it is no operand.
+fn own_bytes(text: &[u8], tokens: &[u32], kept: &[u32], short: bool, p: usize, k: u32) -> usize
     requires { ⌜ Numbered (now tokens) (now kept) ⌝ }
     requires { ⌜ KindAt (now tokens) (now kept) p k ⌝ }
-    ensures { λ r. ⌜ r ≡ tokenBytes byte (tokenAt (view (now (text .entry)) (now (tokens .entry)) (now (kept .entry))) p) ⌝ }
+    ensures { λ r. ⌜ r ≡ ownTokenBytes short (tokenAt (view (now (text .entry)) (now (tokens .entry)) (now (kept .entry))) p) ⌝ }
     ensures { λ r. ⌜ r ≤ 33 ⌝ }
 {
     match k {
-        kind::LITERAL => {
-            if is_value_push(byte) {
-                return push_size(byte);
-            }
-            significant_bytes(text_at(text, tokens, kept, p)) + 1
-        }
+        kind::LITERAL => literal_bytes(text, tokens, kept, short, p),
         kind::IDENT => 3,
         kind::COLON => 0,
         _ => 1,
     }
 }
 
-// The bytes of the body at `start`, or NONE if one of its statements has no length or one of its pushes no operand.
-pub fn plain_length(text: &[u8], tokens: &[u32], kept: &[u32], start: usize) -> usize
+// The bytes of the body at `start`, or NONE if one of its statements has no length or one of its pushes no operand. `byte` is that of the opcode before the token
+// at p, 0, which is no push's, where another token stands there. Opcodes come first, since most tokens are.
+pub fn plain_length(text: &[u8], tokens: &[u32], kept: &[u32], short: bool, start: usize) -> usize
     requires { ⌜ Place (now tokens) (now kept) start ⌝ }
-    ensures { λ r. ⌜ r ≡ lengthFrom (view (now (text .entry)) (now (tokens .entry)) (now (kept .entry))) start ⌝ }
+    ensures { λ r. ⌜ r ≡ lengthFrom short (view (now (text .entry)) (now (tokens .entry)) (now (kept .entry))) start ⌝ }
 {
     let mut byte = 0;
     let mut bytes = 0;
     let mut p = start + 1;
     loop {
         let k = kind_at(tokens, kept, p);
-        if !may_follow(text, tokens, kept, byte, p, k) {
-            return number::NO_LENGTH;
+        if k == kind::OPCODE {
+            if is_value_push(byte) {
+                return number::NO_LENGTH;
+            }
+            bytes += 1;
+            byte = extra_at(tokens, kept, p);
+            p += 1;
+            continue;
+        }
+        if is_value_push(byte) {
+            if !is_operand(text, tokens, kept, byte, p, k) {
+                return number::NO_LENGTH;
+            }
+            bytes += push_size(byte);
+            byte = 0;
+            p += 1;
+            continue;
         }
         if k == kind::CLOSE_BRACE {
             return bytes;
@@ -95,8 +105,8 @@ pub fn plain_length(text: &[u8], tokens: &[u32], kept: &[u32], start: usize) -> 
         if !is_plain(k) {
             return number::NO_LENGTH;
         }
-        bytes += token_bytes(text, tokens, kept, byte, p, k);
-        byte = opcode_byte(tokens, kept, p, k);
+        bytes += own_bytes(text, tokens, kept, short, p, k);
+        byte = 0;
         p += 1;
     }
 }

@@ -9,7 +9,7 @@ use mathlib.Core.List.{List, [], _∷_, _++_, map}
 use mathlib.Core.Logic.{⊎-elim, _↔_}
 use native.Mathlib.Nat.{add-zero, zero-add, sub-zero, zero-sub, sub-self, suc-sub-suc, add-mul}
 use native.Mathlib.Nat.{not-suc-le-zero, lt-of-not-le, le-of-suc-le-suc, le-of-eq, eq-zero-or-pos, le-trans, lt-of-lt-of-le, lt-of-le-of-lt, mul-le-mul-right}
-use native.Mathlib.Nat.{mul-zero, zero-mul, mul-suc, mul-comm, mul-assoc, pow-zero, pow-suc, pow-le-pow-right, div-eq-of-lt, mod-lt, mod-le, mod-eq-of-lt}
+use native.Mathlib.Nat.{mul-zero, zero-mul, mul-suc, mul-comm, mul-assoc, pow-zero, pow-suc, pow-le-pow-right, div-eq-of-lt, mod-lt, mod-le, mod-eq-of-lt, div-one}
 use native.Mathlib.Numerals.{add-one}
 use native.Mathlib.Omega.{arith}
 use borrow.Author.Tests.{ltb-true, ltb-false, leb-true, leb-false, lt-ltb, le-ltb, le-leb, lt-leb, eq-eqb, ne-eqb}
@@ -369,6 +369,23 @@ quarter-some v k q h e p =
 -- a quarter of zero counts for nothing
 pub quarter-none : (v k q : ℕ) → q ≡ v / 256 ^ k % 256 ^ 8 → q ≡ 0 → v % 256 ^ (8 + k) ≡ v % 256 ^ k
 quarter-none v k q e z = rw (mod-bytes v 8 k, ← e, z, zero-mul, zero-add)
+
+-- zero exactly if a quarter and all behind it are
+quarter-zero : (v k : ℕ) → eqb (v % 256 ^ (8 + k)) 0 ≡ (eqb (v % 256 ^ k) 0 && eqb (v / 256 ^ k % 256 ^ 8) 0)
+quarter-zero v k = rw (mod-bytes v 8 k) (go (v / 256 ^ k % 256 ^ 8) (256 ^ k) (v % 256 ^ k) (pos k))
+  where
+    go : (q b r : ℕ) → 0 < b → eqb (q * b + r) 0 ≡ (eqb r 0 && eqb q 0)
+    go zero b zero p = rw zero-mul
+    go (suc q) b zero p =
+        let one : 1 ≤ suc q = omega arith in
+        let some = mul-le-mul-right b one in
+        ne-eqb (suc q * b + 0) 0 (λ z. omega arith) ∙ sym (ne-eqb (suc q) 0 (λ z. omega arith))
+    go q b (suc r) p = ne-eqb (q * b + suc r) 0 (λ z. omega arith) ∙ rw (ne-eqb (suc r) 0 (λ z. omega arith))
+
+-- so, if all four are
+pub quarters-zero : (v : ℕ)
+    → eqb (v % 256 ^ 32) 0 ≡ (eqb (v / 256 ^ 0 % 256 ^ 8) 0 && eqb (v / 256 ^ 8 % 256 ^ 8) 0 && eqb (v / 256 ^ 16 % 256 ^ 8) 0 && eqb (v / 256 ^ 24 % 256 ^ 8) 0)
+quarters-zero v = quarter-zero v 24 ∙ rw (quarter-zero v 16, quarter-zero v 8, div-one)
 
 -- ---- literals
 

@@ -30,7 +30,7 @@ door text words start room =
     (cond (ltb start (length (keptOf words))) (0, length (keptOf words)) (number.StartOutside, start))))
     (number.NotWellFormed, 0)
 
--- what the kept list holds after the door's number: unchanged by a refusal; else the kept numbers, and the words beyond them untouched
+-- what the kept list holds after a call's number at its entrance: unchanged by a refusal; else the kept numbers, and the words beyond them untouched
 abbrev pub keptAfter : ℕ → List ℕ → List ℕ → List ℕ
 keptAfter c words kept = cond (eqb c 0) (sets kept 0 (keptOf words)) kept
 

@@ -1,9 +1,9 @@
 -- Literals: their form, their value and its significant bytes.
 use Prim.Native.Nat.{ℕ, zero, suc, _+_, _%_, _^_}
-use mathlib.Core.Bool.{Bool, true, false, cond, _&&_}
+use mathlib.Core.Bool.{Bool, cond, _&&_}
 use mathlib.Core.List.{List}
 use lib.ListN.{length, take, drop}
-use lib.Dec.{leb, ltb}
+use lib.Dec.{eqb, ltb}
 use Rattle.tokens.specs.Byte.{bytes, same, allHex, valueAfter, between}
 
 -- document 01, "Well formed": 0x and 1 to 64 hex digits
@@ -13,6 +13,10 @@ isLiteral text = same (take 2 text) (bytes "0x") && between 3 66 (length text) &
 -- the value of the digits behind 0x, in 256 bits: 64 digits are never cut
 unfoldable pub literalValue : List ℕ → ℕ
 literalValue text = valueAfter 0 (drop 2 text) % 2 ^ 256
+
+-- a literal's value is zero, however many digits write it
+abbrev pub isZero : List ℕ → Bool
+isZero text = eqb (literalValue text) 0
 
 -- the least number of bytes, from n on and at most `tries` more, that holds v
 unfoldable pub bytesFrom : ℕ → ℕ → ℕ → ℕ

@@ -1,4 +1,4 @@
--- Document 01's numbers by name, and 22 and 36 of its change requests, but for the kinds of a token (Kind): refusals, the widths of records, what stands in their words,
+-- Document 01's numbers by name, and 22, 36 and 38 of its change requests, but for the kinds of a token (Kind): refusals, the widths of records, what stands in their words,
 -- and limits.
 use Prim.Native.Nat.{ℕ}
 
@@ -73,6 +73,9 @@ KeptTooShort = 35
 abbrev pub UnknownMode : ℕ
 UnknownMode = 36
 
+abbrev pub UnknownEdition : ℕ
+UnknownEdition = 38
+
 -- ---- the modes of a call: as document 01 reads, and strictly
 
 abbrev pub lenientMode : ℕ
@@ -80,6 +83,14 @@ lenientMode = 0
 
 abbrev pub strictMode : ℕ
 strictMode = 1
+
+-- ---- the editions of the plain length: as before request [8], and where one byte pushes a zero
+
+abbrev pub firstEdition : ℕ
+firstEdition = 1
+
+abbrev pub secondEdition : ℕ
+secondEdition = 2
 
 -- ---- "Records, in 32-bit words"
 

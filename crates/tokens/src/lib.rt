@@ -18,6 +18,7 @@ pub use lent::start_of;
 pub use literal::all_hex;
 pub use literal::digit_value;
 pub use literal::is_hex;
+pub use literal::is_zero;
 pub use literal::significant_bytes;
 pub use name::is_reserved;
 pub use name::same_name;

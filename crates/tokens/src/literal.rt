@@ -1,9 +1,9 @@
-// Literals: hex digits, their worth, and a literal's significant bytes.
+// Literals: hex digits, their worth, a literal's significant bytes, and whether it is zero.
 ghost use mathlib.Core.Path.{_≡_};
 ghost use Prim.Native.Nat.{_-_, _/_, _%_, _^_, _≤_, min, max};
 ghost use lib.ListN.{length, drop};
 ghost use Rattle.tokens.specs.Byte.{isHex, digit, allHex, valueAfter};
-ghost use Rattle.tokens.specs.Literal.{isLiteral, literalValue, significant};
+ghost use Rattle.tokens.specs.Literal.{isLiteral, literalValue, isZero, significant};
 
 // A hex digit of either case. No branch: which range a byte lies in can't be foreseen.
 pub fn is_hex(c: u8) -> bool
@@ -139,4 +139,20 @@ pub fn significant_bytes(literal: &[u8]) -> usize
         return bytes_of_four(literal);
     }
     bytes_of(quarter(&literal[2..]))
+}
+
+// A literal's value is zero, however many digits write it: all its quarters are. The last comes first, since it tells of most literals.
+pub fn is_zero(literal: &[u8]) -> bool
+    ensures { λ r. ⌜ r ≡ isZero (now (literal .entry)) ⌝ }
+{
+    if quarter_at(literal, 0) != 0 {
+        return false;
+    }
+    if quarter_at(literal, 16) != 0 {
+        return false;
+    }
+    if quarter_at(literal, 32) != 0 {
+        return false;
+    }
+    quarter_at(literal, 48) == 0
 }

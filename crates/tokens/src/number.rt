@@ -47,10 +47,17 @@ pub const KEPT_TOO_SHORT: u32 = 35;
 
 pub const UNKNOWN_MODE: u32 = 36;
 
+pub const UNKNOWN_EDITION: u32 = 38;
+
 // The modes of a call.
 pub const MODE_LENIENT: u32 = 0;
 
 pub const MODE_STRICT: u32 = 1;
+
+// The editions of the plain length.
+pub const EDITION_FIRST: u32 = 1;
+
+pub const EDITION_SECOND: u32 = 2;
 
 // The kinds of a definition.
 pub const DEFINITION_IMPORT: u32 = 1;

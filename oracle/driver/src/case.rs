@@ -11,6 +11,8 @@ const LARGEST: usize = 4_194_304;
 pub struct Case {
     pub body: bool,
     pub mode: u32,
+    /// A file has none.
+    pub edition: Option<u32>,
     pub start: u32,
     pub kept: usize,
     pub definitions: usize,
@@ -27,7 +29,7 @@ impl Case {
     /// Reads a line.
     pub fn read(line: &[u8]) -> Result<Case, &'static str> {
         let fields: Vec<&[u8]> = line.split(|b| *b == b' ').collect();
-        if fields.len() != 9 {
+        if fields.len() != 10 {
             return Err(NOT_A_CASE);
         }
         let body = match fields[0] {
@@ -36,16 +38,17 @@ impl Case {
             _ => return Err(NOT_A_CASE),
         };
         let mode = number(fields[1])?;
-        let start = number(fields[2])?;
-        let kept = number(fields[3])? as usize;
-        let definitions = number(fields[4])? as usize;
-        let statements = number(fields[5])? as usize;
-        let arguments = number(fields[6])? as usize;
-        let text = bytes(fields[7])?;
-        let words = if fields[8] == b"-" {
+        let edition = edition(fields[2], body)?;
+        let start = number(fields[3])?;
+        let kept = number(fields[4])? as usize;
+        let definitions = number(fields[5])? as usize;
+        let statements = number(fields[6])? as usize;
+        let arguments = number(fields[7])? as usize;
+        let text = bytes(fields[8])?;
+        let words = if fields[9] == b"-" {
             vec![]
         } else {
-            fields[8].split(|b| *b == b',').map(number).collect::<Result<Vec<u32>, _>>()?
+            fields[9].split(|b| *b == b',').map(number).collect::<Result<Vec<u32>, _>>()?
         };
         if (!body && start != 0) || (body && definitions != 0) {
             return Err(NOT_A_CASE);
@@ -56,7 +59,18 @@ impl Case {
         {
             return Err(TOO_LARGE);
         }
-        Ok(Case { body, mode, start, kept, definitions, statements, arguments, text, words })
+        Ok(Case {
+            body,
+            mode,
+            edition,
+            start,
+            kept,
+            definitions,
+            statements,
+            arguments,
+            text,
+            words,
+        })
     }
 }
 
@@ -67,6 +81,15 @@ fn number(field: &[u8]) -> Result<u32, &'static str> {
     }
     let value = field.iter().fold(0u64, |n, d| 10 * n + u64::from(d - b'0'));
     u32::try_from(value).map_err(|_| NOT_A_CASE)
+}
+
+/// A body's edition; for a file `-`.
+fn edition(field: &[u8], body: bool) -> Result<Option<u32>, &'static str> {
+    match (body, field) {
+        (true, _) => number(field).map(Some),
+        (false, b"-") => Ok(None),
+        (false, _) => Err(NOT_A_CASE),
+    }
 }
 
 /// Hex digits, two a byte, or `-` for none.

@@ -14,9 +14,10 @@
 //! and doesn't look at the length of the kept list. `driver --raw` prints the Rust's own result, its
 //! nodes or its error, as Rust shows it; a span's start is the token's place.
 //!
-//! What the nodes don't hold the driver derives: 30, 31, 35, 36, 32 to 34, the kept list, the ranges
-//! that are wider than the nodes' spans, imports' places, the arguments of calls, the forms of a
-//! builtin's arguments, record numbers and the plain length. docs/DIFFERENCES.md says so.
+//! What the nodes don't hold the driver derives: 30, 31, 35, 36, 38, 32 to 34, the kept list, the
+//! ranges that are wider than the nodes' spans, imports' places, the arguments of calls, the forms of
+//! a builtin's arguments, record numbers and the plain length, in either edition. docs/DIFFERENCES.md
+//! says so.
 
 mod case;
 mod nodes;
@@ -27,6 +28,9 @@ use std::io::{self, BufRead, Write};
 
 /// Mode 1, strict reading; 0 is the Rust's own, and there are no others.
 const STRICT: u32 = 1;
+/// The editions of the plain length. The Rust has neither: the driver adds up both.
+const FIRST: u32 = 1;
+const SECOND: u32 = 2;
 
 /// What the options ask for.
 #[derive(Clone, Copy, Default)]
@@ -82,9 +86,12 @@ fn serve(ways: Ways) -> io::Result<()> {
 fn answer(case: &Case, ways: Ways) -> String {
     let mut lent = Lent::new(case);
 
-    // The door: 36, 30, 35, 31, in this order, with nothing lent changed.
+    // The door: 36, 38, 30, 35, 31, in this order, with nothing lent changed.
     if case.mode > STRICT {
         return lent.show([36, 0, 0, 0, 0]);
+    }
+    if !matches!(case.edition, None | Some(FIRST | SECOND)) {
+        return lent.show([38, 0, 0, 0, 0]);
     }
     if !ways.unformed {
         if let Some(bad) = tokens::first_bad(&case.text, &case.words) {
@@ -112,12 +119,9 @@ fn answer(case: &Case, ways: Ways) -> String {
         return shown.unwrap_or_else(|_| "PANIC".to_string());
     }
     lent.write_kept(&kept);
-    let read = std::panic::catch_unwind(|| {
-        if case.body {
-            nodes::read_body(list, case.start as usize)
-        } else {
-            nodes::read_file(list)
-        }
+    let read = std::panic::catch_unwind(|| match case.edition {
+        Some(edition) => nodes::read_body(list, case.start as usize, edition),
+        None => nodes::read_file(list),
     });
     match read {
         Err(_) => "PANIC".to_string(),

@@ -1,5 +1,6 @@
 //! Runs the Rust and turns its nodes into document 01's records.
 
+use crate::SECOND;
 use huff_parser::Parser;
 use huff_utils::{
     ast::*,
@@ -74,13 +75,13 @@ fn parser_at(mut list: Vec<Token>, start: usize) -> Parser {
     parser
 }
 
-/// Reads a body from a place.
-pub fn read_body(list: Vec<Token>, start: usize) -> Result<Found, No> {
+/// Reads a body from a place; its length is that of an edition.
+pub fn read_body(list: Vec<Token>, start: usize, edition: u32) -> Result<Found, No> {
     let mut parser = parser_at(list, start);
     let body = parser.parse_body()?;
     let mut maker = Maker::new(&parser.tokens);
     maker.statements(&body, start + 1, parser.cursor - 1)?;
-    let length = plain_length(&body).unwrap_or(NONE);
+    let length = plain_length(&body, edition).unwrap_or(NONE);
     Ok(maker.found(parser.cursor, length))
 }
 
@@ -367,14 +368,15 @@ fn first_of(s: &Statement) -> usize {
     }
 }
 
-/// The plain length of a body, which the Rust doesn't know: document 01's added rule, with request [3].
-fn plain_length(body: &[Statement]) -> Option<u32> {
+/// The plain length of a body in an edition, which the Rust doesn't know: document 01's added rule,
+/// with requests [3] and [8].
+fn plain_length(body: &[Statement], edition: u32) -> Option<u32> {
     let labels = body.iter().position(|s| matches!(s.ty, StatementType::Label(_)));
     let (main, groups) = body.split_at(labels.unwrap_or(body.len()));
-    let mut total = part_length(main)?;
+    let mut total = part_length(main, edition)?;
     for s in groups {
         match &s.ty {
-            StatementType::Label(l) => total += 1 + part_length(&l.inner)?,
+            StatementType::Label(l) => total += 1 + part_length(&l.inner, edition)?,
             _ => unreachable!("behind a label stands another statement than a label"),
         }
     }
@@ -382,7 +384,7 @@ fn plain_length(body: &[Statement]) -> Option<u32> {
 }
 
 /// The bytes of a macro part or of a label's items.
-fn part_length(part: &[Statement]) -> Option<u32> {
+fn part_length(part: &[Statement], edition: u32) -> Option<u32> {
     let mut total = 0;
     let mut rest = part.iter();
     while let Some(s) = rest.next() {
@@ -395,6 +397,8 @@ fn part_length(part: &[Statement]) -> Option<u32> {
                 }
             }
             StatementType::Opcode(_) => 1,
+            // PUSH0.
+            StatementType::Literal(l) if edition == SECOND && *l == [0; 32] => 1,
             StatementType::Literal(l) => 1 + significant(l),
             StatementType::LabelCall(_) => 3,
             _ => return None,

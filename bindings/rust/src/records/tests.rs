@@ -3,6 +3,7 @@
 use super::*;
 use crate::body::Body;
 use crate::file::File;
+use crate::options::Edition;
 use crate::reading::{Reading, Tables};
 use crate::table::Table;
 use crate::{ARGUMENT_WORDS, DEFINITION_WORDS, STATEMENT_WORDS};
@@ -76,7 +77,8 @@ fn views_over_anything_end_without_panic() {
         };
         let tokens: Vec<u32> = (0..50).map(|_| words.next()).collect();
         let reading = Reading { text: b"some text of 24 bytes...", tokens: &tokens, tables: &tables };
-        views += walk(File { reading, end: 0 }, Body { reading, end: 0, plain_length: None });
+        let body = Body { reading, end: 0, edition: Edition::First, plain_length: None };
+        views += walk(File { reading, end: 0 }, body);
     }
     println!("{} views", views);
     assert!(views > 100_000, "only {} views", views);

@@ -2,7 +2,7 @@
 
 #![allow(dead_code)]
 
-use simmerotter::{push_token, raw, Kind, Mode, Options, Room, TOKEN_WORDS};
+use simmerotter::{push_token, raw, Edition, Kind, Mode, Options, Room, TOKEN_WORDS};
 use std::fs;
 use std::path::Path;
 
@@ -16,6 +16,8 @@ pub struct Case {
     pub is_body: bool,
     /// The mode's number; some cases have the number of no mode.
     pub mode: u32,
+    /// The edition's number; some bodies have the number of no edition. 0 for a file, which has none.
+    pub edition: u32,
     pub start: usize,
     pub text: Vec<u8>,
     pub tokens: Vec<u32>,
@@ -54,39 +56,77 @@ impl Lists {
         raw::read_file(mode, text, tokens, kept, definitions, statements, arguments)
     }
 
-    pub fn read_body(&mut self, mode: u32, text: &[u8], tokens: &[u32], start: usize) -> [u64; 5] {
-        raw::read_body(mode, text, tokens, start, &mut self.kept, &mut self.statements, &mut self.arguments)
+    pub fn read_body(&mut self, mode: u32, edition: u32, text: &[u8], tokens: &[u32], start: usize) -> [u64; 5] {
+        raw::read_body(mode, edition, text, tokens, start, &mut self.kept, &mut self.statements, &mut self.arguments)
     }
 }
 
+/// What a call left: its answer and the lent lists.
+pub type Left = ([u64; 5], Lists);
+
 impl Case {
-    /// The case's mode, if its number is that of one: rooms read in no other.
-    pub fn known_mode(&self) -> Option<Mode> {
-        Mode::ALL.into_iter().find(|mode| mode.number() == self.mode)
+    /// The setting that has the case's numbers, if there is one: rooms read by no others. A file goes with either edition.
+    pub fn setting(&self) -> Option<Setting> {
+        SETTINGS.into_iter().find(|setting| {
+            let [mode, edition] = setting.numbers();
+            mode == self.mode && (edition == self.edition || !self.is_body)
+        })
     }
 
-    /// Calls the archive in the case's mode with lists like its own.
-    pub fn call(&self) -> ([u64; 5], Lists) {
-        self.call_with(self.mode, Lists::filled(self.wanted.lengths(), FILL))
+    /// Calls the archive with the case's numbers and lists like its own.
+    pub fn call(&self) -> Left {
+        self.call_in(self.edition)
     }
 
-    /// Calls the archive, whatever the case's mode is, with lists that are long enough.
-    pub fn call_with_enough(&self, mode: Mode) -> ([u64; 5], Lists) {
-        self.call_with(mode.number(), Lists::enough(&self.tokens))
+    /// The same in this edition, whatever the case's is.
+    pub fn call_in(&self, edition: u32) -> Left {
+        self.call_with([self.mode, edition], Lists::filled(self.wanted.lengths(), FILL))
     }
 
-    fn call_with(&self, mode: u32, mut lists: Lists) -> ([u64; 5], Lists) {
+    /// Calls the archive, whatever the case's numbers are, with lists that are long enough.
+    pub fn call_with_enough(&self, setting: Setting) -> Left {
+        self.call_with(setting.numbers(), Lists::enough(&self.tokens))
+    }
+
+    fn call_with(&self, [mode, edition]: [u32; 2], mut lists: Lists) -> Left {
         let answer = match self.is_body {
-            true => lists.read_body(mode, &self.text, &self.tokens, self.start),
+            true => lists.read_body(mode, edition, &self.text, &self.tokens, self.start),
             false => lists.read_file(mode, &self.text, &self.tokens),
         };
         (answer, lists)
     }
 }
 
+/// What a room can be told.
+#[derive(Clone, Copy, Debug, PartialEq, Eq)]
+pub struct Setting {
+    pub mode: Mode,
+    pub edition: Edition,
+}
+
+/// Both modes, each with both editions.
+pub const SETTINGS: [Setting; 4] = [
+    Setting { mode: Mode::Lenient, edition: Edition::First },
+    Setting { mode: Mode::Lenient, edition: Edition::Second },
+    Setting { mode: Mode::Strict, edition: Edition::First },
+    Setting { mode: Mode::Strict, edition: Edition::Second },
+];
+
+impl Setting {
+    /// An empty room of this setting.
+    pub fn room(self) -> Room {
+        Room::with(Options::default().mode(self.mode).edition(self.edition))
+    }
+
+    /// The first two numbers of a body's call.
+    pub fn numbers(self) -> [u32; 2] {
+        [self.mode.number(), self.edition.number()]
+    }
+}
+
 /// An empty room that reads in this mode.
 pub fn room_in(mode: Mode) -> Room {
-    Room::with(Options::default().mode(mode))
+    Setting { mode, edition: Edition::First }.room()
 }
 
 /// Every case of the fixed sample: all of its lines but headings and those that are answered by a single word.
@@ -113,19 +153,20 @@ fn sample(name: &str) -> String {
 fn case(line: usize, section: &str, fields: &str, answer: &str) -> Case {
     let fields: Vec<&str> = fields.split(' ').collect();
     let parts: Vec<&str> = answer.split('|').collect();
-    assert_eq!((fields.len(), parts.len()), (9, 5), "fields and parts of line {}", line);
+    assert_eq!((fields.len(), parts.len()), (10, 5), "fields and parts of line {}", line);
     let five: Vec<u64> = parts[0].split(' ').map(|number| u64::from(word(number))).collect();
     let [kept, definitions, statements, arguments] = [1, 2, 3, 4].map(|part| words(parts[part]));
     let wanted = Lists { kept, definitions, statements, arguments };
-    assert_eq!([3, 4, 5, 6].map(|field| size(fields[field])), wanted.lengths(), "lengths of line {}", line);
+    assert_eq!([4, 5, 6, 7].map(|field| size(fields[field])), wanted.lengths(), "lengths of line {}", line);
     Case {
         line,
         section: section.to_string(),
         is_body: fields[0] == "B",
         mode: word(fields[1]),
-        start: size(fields[2]),
-        text: bytes(fields[7]),
-        tokens: words(fields[8]),
+        edition: edition(fields[2]),
+        start: size(fields[3]),
+        text: bytes(fields[8]),
+        tokens: words(fields[9]),
         answer: five.try_into().expect("five numbers"),
         wanted,
     }
@@ -133,6 +174,14 @@ fn case(line: usize, section: &str, fields: &str, answer: &str) -> Case {
 
 fn word(number: &str) -> u32 {
     number.parse().expect("a number of 32 bits")
+}
+
+/// A file has a dash in the edition's place.
+fn edition(field: &str) -> u32 {
+    match field {
+        "-" => 0,
+        number => word(number),
+    }
 }
 
 fn size(number: &str) -> usize {
@@ -283,5 +332,15 @@ impl Chance {
     /// A number below a bound that is not 0.
     pub fn below(&mut self, bound: usize) -> usize {
         (self.number() >> 11) as usize % bound
+    }
+
+    /// A number to be given as an edition: mostly that of one, else one beside them, or any.
+    pub fn edition(&mut self) -> u32 {
+        match self.below(8) {
+            0 => 0,
+            1 => 3,
+            2 => self.word(),
+            other => Edition::ALL[other % 2].number(),
+        }
     }
 }

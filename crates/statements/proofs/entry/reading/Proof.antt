@@ -44,7 +44,7 @@ returns c =
     let a = c .before .before .before .before .before .before .before .before .before .before .before .before .before .before .before .before .before .before .before .before .args in
     let read = body-named (a .strict) (view (now (a .text)) (now (a .tokens)) (now (a .kept))) {r′ = c .before .before .before .before .before .before .before .if1 .read} (c .before .before .before .before .before .before .before .before .before .before .before .before .parse-body .ensures)
     (⊎-elim (λ x. inl (x .0 .taken, x .4 ∙ x .3 .ensures)) (⊎-elim (λ x. inl (x .0 .taken, x .4 ∙ x .3 .ensures)) (λ x. inr (x .0 .left, x .1))) (c .before .before .before .before .before .before .before .if1 .came)) in
-    body-read (asks (a .strict)) (now (a .text)) (now (a .tokens)) (now (a .kept)) (a .start) (now (a .statements)) (now (a .arguments)) read (search needs) (search needs) (c .before .before .before .before .settle .ensures)
+    body-read (asks (a .strict)) (a .short) (now (a .text)) (now (a .tokens)) (now (a .kept)) (a .start) (now (a .statements)) (now (a .arguments)) read (search needs) (search needs) (c .before .before .before .before .settle .ensures)
 
 pub reading-spec : {M : Type 1} → statement M
 reading-spec =
