@@ -450,6 +450,65 @@ static bool repeats_label(const struct call *c, size_t place)
     return false;
 }
 
+/* Which type a name is: each of the names there are is spelled and compared. */
+
+struct told {
+    uint64_t type, size;
+};
+
+static bool is_spelled(struct name own, const char *word)
+{
+    return own.length == strlen(word) && memcmp(own.own, word, own.length) == 0;
+}
+
+static struct told bare_type(struct name own)
+{
+    static const struct {
+        const char *word;
+        struct told told;
+    } BARE[] = {{"address", {TYPE_ADDRESS, 0}}, {"bool", {TYPE_BOOL, 0}},   {"string", {TYPE_STRING, 0}},
+                {"bytes", {TYPE_BYTES, 0}},     {"uint", {TYPE_UINT, 256}}, {"int", {TYPE_INT, 256}}};
+    for (size_t i = 0; i < sizeof BARE / sizeof *BARE; i++)
+        if (is_spelled(own, BARE[i].word))
+            return BARE[i].told;
+    return (struct told){NO_TYPE, 0};
+}
+
+/* The word with one of the 32 sizes behind it; 0 if it is none of them. */
+static uint64_t size_behind(struct name own, const char *word, unsigned step)
+{
+    char sized[16];
+    for (unsigned size = step; size <= 32 * step; size += step) {
+        snprintf(sized, sizeof sized, "%s%u", word, size);
+        if (is_spelled(own, sized))
+            return size;
+    }
+    return 0;
+}
+
+static struct told type_of(struct name own)
+{
+    uint64_t bits = size_behind(own, "uint", 8), signed_bits = size_behind(own, "int", 8);
+    uint64_t bytes = size_behind(own, "bytes", 1);
+    if (bits != 0)
+        return (struct told){TYPE_UINT, bits};
+    if (signed_bits != 0)
+        return (struct told){TYPE_INT, signed_bits};
+    return bytes != 0 ? (struct told){TYPE_BYTES_N, bytes} : bare_type(own);
+}
+
+/* After 7: a type's name stands at the cursor or a PrimitiveType, whatever its text. */
+static const char *broken_telling(const struct call *c, size_t place)
+{
+    struct told told = type_of(name_at(c, place));
+    uint32_t kind = kind_at(c, place);
+    if (kind != PRIMITIVE && (kind != IDENT || told.type == NO_TYPE))
+        return "the cursor of 7 is a type's name or a PrimitiveType";
+    if (c->answer[5] != told.type || c->answer[6] != told.size)
+        return "7 tells the type and the size of the text at its cursor";
+    return NULL;
+}
+
 /* Answers. */
 
 static const char *broken_acceptance(const struct call *c, size_t kept_count)
@@ -492,6 +551,8 @@ static const char *broken_refusal(const struct call *c, size_t kept_count)
         return is_too_small(c) ? NULL : "a table called too small has fewer records than needed";
     if (a[1] >= kept_count)
         return "the cursor of 1 to 22 is the place of a kept token";
+    if (a[0] == 7)
+        return broken_telling(c, a[1]);
     if (a[0] == 20 && kind_at(c, a[1]) != IDENT)
         return "the cursor of 20 is a name";
     if (a[0] == 21 && kind_at(c, a[1]) != POUND)
@@ -519,11 +580,13 @@ const char *broken_rule(const struct call *c, const struct maker *m)
 {
     struct door door = door_of(c);
     uint64_t number;
-    if (!is_defined(c->answer, 5 * sizeof *c->answer))
-        return "all five numbers of the answer are written";
+    if (!is_defined(c->answer, ANSWER_NUMBERS * sizeof *c->answer))
+        return "all seven numbers of the answer are written";
     number = c->answer[0];
     if (!number_is_known(c, number))
         return "the number is one of the table, and of this entry, mode and edition";
+    if (number != 7 && (c->answer[5] != 0 || c->answer[6] != 0))
+        return "type and size are 0 unless the number is 7";
     if (!inputs_kept(c, m))
         return "text and tokens are only read";
     if (door.number != 0)
@@ -549,7 +612,7 @@ static uint64_t mixed(uint64_t sum, const void *at, size_t bytes)
 
 uint64_t digest(const struct call *c)
 {
-    uint64_t sum = mixed(0xcbf29ce484222325u, c->answer, 5 * sizeof *c->answer);
+    uint64_t sum = mixed(0xcbf29ce484222325u, c->answer, ANSWER_NUMBERS * sizeof *c->answer);
     sum = mixed(sum, c->text, c->text_len);
     sum = mixed(sum, c->tokens, c->tokens_len * 4);
     sum = mixed(sum, c->kept, c->sizes.kept * 4);

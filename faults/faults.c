@@ -28,7 +28,7 @@ struct search {
     struct maker maker;
     struct lender lender;
     /* What the chosen call left, for the call that repeats it. */
-    uint64_t answer[5];
+    uint64_t answer[ANSWER_NUMBERS];
     uint32_t *tables;
     size_t tables_room;
     /* Counts. */
@@ -57,8 +57,10 @@ static void print_case(const struct search *s, const struct call *c)
     print_words("tokens", m->words, m->words_len);
     fprintf(stderr, "  lent: kept %zu, definitions %zu, statements %zu, arguments %zu\n", c->sizes.kept,
             c->sizes.definitions, c->sizes.statements, c->sizes.arguments);
-    fprintf(stderr, "  answer: %" PRIu64 " %" PRIu64 " %" PRIu64 " %" PRIu64 " %" PRIu64 "\n", c->answer[0],
-            c->answer[1], c->answer[2], c->answer[3], c->answer[4]);
+    fprintf(stderr, "  answer:");
+    for (int i = 0; i < ANSWER_NUMBERS; i++)
+        fprintf(stderr, " %" PRIu64, c->answer[i]);
+    fprintf(stderr, "\n");
 }
 
 static void stop(const struct search *s, const struct call *c, const char *which, const char *rule)
@@ -130,8 +132,8 @@ static void test_chosen(const struct search *s, const uint64_t *roomy, struct ne
 {
     if (c->answer[0] != wanted_number(roomy, n, c) || c->answer[1] != wanted_cursor(roomy, n, c))
         stop(s, c, "chosen", "the sizes of the tables change the answer as 32 to 34 say");
-    if (c->answer[0] == 0 && memcmp(c->answer, roomy, 5 * sizeof *roomy) != 0)
-        stop(s, c, "chosen", "an accepted call counts the same whatever its tables");
+    if (c->answer[0] == roomy[0] && memcmp(c->answer, roomy, sizeof s->answer) != 0)
+        stop(s, c, "chosen", "an answer counts and tells the same whatever the tables");
 }
 
 static size_t table_words(const struct call *c)
@@ -182,7 +184,7 @@ static void count_answer(struct search *s, const struct call *c)
 static void do_case(struct search *s)
 {
     struct call call;
-    uint64_t roomy[5];
+    uint64_t roomy[ANSWER_NUMBERS];
     make_case(&s->maker, s->seed, s->number);
     s->lender.chance = stream(~s->seed, s->number);
     s->large += s->number % LARGE_EVERY == LARGE_AT;

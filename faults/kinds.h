@@ -1,4 +1,4 @@
-/* Document 01's kinds of tokens, and the widths of its records. */
+/* Document 01's kinds of tokens, the widths of its records and answers, and the types that request [10] tells. */
 #ifndef KINDS_H
 #define KINDS_H
 
@@ -11,6 +11,12 @@ enum kind {
 };
 
 enum { MOST_TEXT = 1048576, MOST_TOKENS = 65536, TOKEN = 4, DEFINITION = 12, STATEMENT = 8, ARGUMENT = 7 };
+
+/* Number, cursor, three counts, type, size. */
+enum { ANSWER_NUMBERS = 7 };
+
+/* The types that a name can be. */
+enum type { NO_TYPE, TYPE_ADDRESS, TYPE_BOOL, TYPE_STRING, TYPE_BYTES, TYPE_UINT, TYPE_INT, TYPE_BYTES_N };
 
 /* The modes there are. */
 enum { PLAIN_MODE, STRICT_MODE };

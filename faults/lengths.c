@@ -42,7 +42,7 @@ static int is_answer(const char *what, const uint64_t *answer, uint64_t number, 
 
 static int long_text(uint32_t mode, uint8_t *text, size_t length)
 {
-    uint64_t body[5], file[5];
+    uint64_t body[SIMMEROTTER_ANSWER_NUMBERS], file[SIMMEROTTER_ANSWER_NUMBERS];
     uint32_t empty[1];
     simmerotter_read_body(mode, EDITION, text, length, TOKENS, WORDS, 0, kept, KEPT, empty, 0, empty, 0, body);
     simmerotter_read_file(mode, text, length, TOKENS, WORDS, kept, KEPT, empty, 0, empty, 0, empty, 0, file);
@@ -51,7 +51,7 @@ static int long_text(uint32_t mode, uint8_t *text, size_t length)
 
 static int long_tokens(uint32_t mode, uint32_t *tokens, size_t length)
 {
-    uint64_t body[5], file[5];
+    uint64_t body[SIMMEROTTER_ANSWER_NUMBERS], file[SIMMEROTTER_ANSWER_NUMBERS];
     uint32_t empty[1];
     simmerotter_read_body(mode, EDITION, TEXT, 2, tokens, length, 0, kept, KEPT, empty, 0, empty, 0, body);
     simmerotter_read_file(mode, TEXT, 2, tokens, length, kept, KEPT, empty, 0, empty, 0, empty, 0, file);
@@ -61,7 +61,7 @@ static int long_tokens(uint32_t mode, uint32_t *tokens, size_t length)
 /* Long enough, though its length in 32 bits would not be. */
 static int long_kept(uint32_t mode, uint32_t *list, size_t length)
 {
-    uint64_t body[5], file[5];
+    uint64_t body[SIMMEROTTER_ANSWER_NUMBERS], file[SIMMEROTTER_ANSWER_NUMBERS];
     uint32_t empty[1];
     simmerotter_read_body(mode, EDITION, TEXT, 2, TOKENS, WORDS, 0, list, length, empty, 0, empty, 0, body);
     simmerotter_read_file(mode, TEXT, 2, TOKENS, WORDS, list, length, empty, 0, empty, 0, empty, 0, file);
@@ -70,7 +70,7 @@ static int long_kept(uint32_t mode, uint32_t *list, size_t length)
 
 static int far_start(uint32_t mode, size_t start)
 {
-    uint64_t body[5];
+    uint64_t body[SIMMEROTTER_ANSWER_NUMBERS];
     uint32_t empty[1];
     simmerotter_read_body(mode, EDITION, TEXT, 2, TOKENS, WORDS, start, kept, KEPT, empty, 0, empty, 0, body);
     return is_answer("a far start", body, 31, start);

@@ -10,6 +10,8 @@
 #include "kinds.h"
 #include "memcheck.h"
 
+_Static_assert(SIMMEROTTER_ANSWER_NUMBERS == ANSWER_NUMBERS, "the header's answers are those that are lent and tested");
+
 enum { PAGE = 4096, CANARY = 0xc5 };
 
 /* Bytes that the largest case can lend in one block: 65,537 tokens, a record for each. */
@@ -130,7 +132,7 @@ void lend(struct lender *l, const struct maker *m, struct sizes sizes, uint32_t 
     call->definitions = lend_words(l, DEFINITIONS, sizes.definitions, call);
     call->statements = lend_words(l, STATEMENTS, sizes.statements, call);
     call->arguments = lend_words(l, ARGUMENTS, sizes.arguments, call);
-    call->answer = (uint64_t *)lend_words(l, ANSWER, 10, call);
+    call->answer = (uint64_t *)lend_words(l, ANSWER, 2 * ANSWER_NUMBERS, call);
 }
 
 void run_call(const struct call *c)

@@ -16,10 +16,10 @@ static const char *const SPELLED[KINDS] = {
 };
 
 static const char *const PLAIN[] = {"a", "b", "x", "F", "G", "abc", "dead", "M1", "_", "go", "amount", "0", "1f"};
-static const char *const RESERVED[] = {"uint256", "bool", "address", "bytes32", "uint", "int", "int8", "string",
-                                       "bytes", "bytes1", "uint8", "int256", "uint248"};
+static const char *const BARE_TYPES[] = {"address", "bool", "string", "bytes", "uint", "int"};
 static const char *const NEARLY[] = {"uint7", "bytes33", "uint08", "int264", "bytes0", "Bool", "uint2560", "addres",
-                                     "addresss", "in", "byte", "uint0", "bytes01", "bytes3_", "strings"};
+                                     "addresss", "in", "byte", "uint0", "bytes01", "bytes3_", "strings", "Uint8",
+                                     "uint264", "int257", "bool8", "uint4294967304", "bytes032"};
 static const char *const LABELS[] = {"l", "go", "end", "uint256"};
 /* Labels' names that are close to each other: in one byte, in case, as a prefix, in length or in zero bytes alone. */
 static const struct token CLOSE[] = {
@@ -28,7 +28,7 @@ static const struct token CLOSE[] = {
     {LABEL, 0, "step10", 6}, {LABEL, 0, "step", 4}, {LABEL, 0, "step\0", 5}, {LABEL, 0, "\0\0\0\0step", 8}};
 enum { CLOSE_NAMES = sizeof CLOSE / sizeof *CLOSE };
 static const char *const STRINGS[] = {"\"s\"", "", "\"f(uint256)\"", "\"calldata\""};
-static const char *const TYPES[] = {"address", "bool", "uint", "uint256", "int128", "bytes32", "", "uint7", "foo"};
+static const char *const NO_TYPES[] = {"", "foo", "_"};
 static const char *const BAD_LITERALS[] = {"", "0", "0x", "x1", "0X1", "1x1", "0xg", "0x1g", "0x1/", "0x1:", "0x@1",
                                            "0x`1", "0x1 ", "0x-1", "0x\xff", "00x1"};
 enum { PUSH0 = 0x5f, PUSH32 = 0x7f };
@@ -97,13 +97,43 @@ static char *pooled(struct maker *m, size_t length)
     return own;
 }
 
+/* The name of a type, of any size; each of the nine forms as often as the others. */
+static const char *type_name(struct maker *m)
+{
+    static const char *const SIZED[] = {"uint", "int", "bytes"};
+    uint32_t form = below(&m->chance, 9), size = 1 + below(&m->chance, 32);
+    if (form >= 3)
+        return BARE_TYPES[form - 3];
+    char *own = pooled(m, 8);
+    snprintf(own, 8, "%s%u", SIZED[form], form == 2 ? size : 8 * size);
+    return own;
+}
+
+/* The token of a type. Its text is mostly a type's name, but need not be one. */
+static void put_type(struct maker *m)
+{
+    uint32_t roll = below(&m->chance, 100);
+    put_own(m, PRIMITIVE, roll < 70 ? type_name(m) : roll < 85 ? ONE_OF(m, NEARLY) : ONE_OF(m, NO_TYPES));
+}
+
+/* What stands in a tested name's place and is refused. */
+static void put_refused_name(struct maker *m)
+{
+    if (likely(&m->chance, 40))
+        put_type(m);
+    else
+        put_own(m, IDENT, type_name(m));
+}
+
 /* A name; one that is tested is seldom a reserved one, and never in a large case: it would end the reading early. */
 static void put_ident(struct maker *m, bool tested)
 {
     uint32_t roll = below(&m->chance, 100);
-    if (roll < (tested ? m->slip : 12))
-        put_own(m, IDENT, ONE_OF(m, RESERVED));
-    else if (roll < 20)
+    if (tested && roll < m->slip)
+        put_refused_name(m);
+    else if (!tested && roll < 12)
+        put_own(m, IDENT, type_name(m));
+    else if (roll < 20 + m->slip)
         put_own(m, IDENT, ONE_OF(m, NEARLY));
     else
         put_own(m, IDENT, ONE_OF(m, PLAIN));
@@ -199,7 +229,7 @@ static void put_kind(struct maker *m, uint32_t kind)
     case OPCODE: put_opcode(m, likely(&m->chance, 50) ? push_byte(m) : below(&m->chance, 256)); break;
     case NUM: put_num(m); break;
     case STR: put_own(m, STR, ONE_OF(m, STRINGS)); break;
-    case PRIMITIVE: put_own(m, PRIMITIVE, ONE_OF(m, TYPES)); break;
+    case PRIMITIVE: put_type(m); break;
     default: put(m, kind); break;
     }
 }
@@ -264,6 +294,22 @@ static void put_untyped_list(struct maker *m, bool builtin)
         }
         if (put_comma(m))
             odd = false;
+    }
+    put(m, CLOSE_PAREN);
+}
+
+/* A builtin's list of pairs: the second name of each is tested. */
+static void put_pairs_of_names(struct maker *m)
+{
+    put(m, OPEN_PAREN);
+    for (uint32_t n = 1 + below(&m->chance, 3); n > 0; n--) {
+        put_ident(m, false);
+        if (likely(&m->chance, 20))
+            put_kind(m, likely(&m->chance, 50) ? STR : LITERAL);
+        if (likely(&m->chance, 20))
+            put_location(m);
+        put_ident(m, true);
+        put_comma(m);
     }
     put(m, CLOSE_PAREN);
 }
@@ -848,6 +894,25 @@ static void zeros(struct maker *m)
     lay_out_small(m);
 }
 
+/* For 7: a builtin's list in a body, or any definition; many tested names are those of types. */
+static void types(struct maker *m)
+{
+    m->family = "types";
+    m->slip = 40;
+    m->body = likely(&m->chance, 60);
+    if (m->body) {
+        put(m, OPEN_BRACE);
+        put(m, BUILTIN);
+        put_pairs_of_names(m);
+        put(m, CLOSE_BRACE);
+    } else {
+        put_definition(m);
+    }
+    if (likely(&m->chance, 20))
+        mutate(m);
+    lay_out_small(m);
+}
+
 static void repeated_names(struct maker *m)
 {
     m->family = "repeated names";
@@ -1062,18 +1127,20 @@ static void small(struct maker *m)
         random_words(m);
     else if (roll < 18)
         random_kinds(m);
-    else if (roll < 34)
+    else if (roll < 33)
         bodies(m);
-    else if (roll < 51)
+    else if (roll < 49)
         files(m);
-    else if (roll < 66)
+    else if (roll < 63)
         mutated_tokens(m);
-    else if (roll < 78)
+    else if (roll < 74)
         mutated_words(m);
-    else if (roll < 81)
+    else if (roll < 77)
         pushes(m);
-    else if (roll < 84)
+    else if (roll < 80)
         zeros(m);
+    else if (roll < 84)
+        types(m);
     else if (roll < 88)
         repeated_names(m);
     else if (roll < 95)

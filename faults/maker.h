@@ -18,7 +18,7 @@ struct maker {
     char *pool;
     size_t used;
     unsigned serial;
-    uint32_t slip; /* how many tested names of a hundred are reserved ones */
+    uint32_t slip; /* how many tested names of a hundred are refused */
     bool sound; /* the labels of the body at hand have names of their own, and their pushes literals that fit */
     /* The case. */
     const char *family;

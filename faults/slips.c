@@ -13,19 +13,19 @@
 void __real_simmerotter_read_file(uint32_t mode, const uint8_t *text, size_t text_len, const uint32_t *tokens,
                                   size_t tokens_len, uint32_t *kept, size_t kept_len, uint32_t *definitions,
                                   size_t definitions_len, uint32_t *statements, size_t statements_len,
-                                  uint32_t *arguments, size_t arguments_len, uint64_t answer[5]);
+                                  uint32_t *arguments, size_t arguments_len, uint64_t *answer);
 void __real_simmerotter_read_body(uint32_t mode, uint32_t edition, const uint8_t *text, size_t text_len,
                                   const uint32_t *tokens, size_t tokens_len, size_t start, uint32_t *kept,
                                   size_t kept_len, uint32_t *statements, size_t statements_len, uint32_t *arguments,
-                                  size_t arguments_len, uint64_t answer[5]);
+                                  size_t arguments_len, uint64_t *answer);
 void __wrap_simmerotter_read_file(uint32_t mode, const uint8_t *text, size_t text_len, const uint32_t *tokens,
                                   size_t tokens_len, uint32_t *kept, size_t kept_len, uint32_t *definitions,
                                   size_t definitions_len, uint32_t *statements, size_t statements_len,
-                                  uint32_t *arguments, size_t arguments_len, uint64_t answer[5]);
+                                  uint32_t *arguments, size_t arguments_len, uint64_t *answer);
 void __wrap_simmerotter_read_body(uint32_t mode, uint32_t edition, const uint8_t *text, size_t text_len,
                                   const uint32_t *tokens, size_t tokens_len, size_t start, uint32_t *kept,
                                   size_t kept_len, uint32_t *statements, size_t statements_len, uint32_t *arguments,
-                                  size_t arguments_len, uint64_t answer[5]);
+                                  size_t arguments_len, uint64_t *answer);
 
 /* Accesses that the compiler may not leave out. */
 static volatile uint32_t seen;
@@ -33,7 +33,7 @@ static volatile uint32_t seen;
 static uint32_t calls;
 
 /* What a library with a buffer of its own would do: all threads answer through the same words. */
-static uint64_t shared[5];
+static uint64_t shared[SIMMEROTTER_ANSWER_NUMBERS];
 
 static void answer_through_shared(uint64_t *answer)
 {
@@ -101,6 +101,12 @@ static void slip(const uint8_t *text, size_t text_len, const uint32_t *tokens, s
     case 15: answer[1] += ++calls % 100 == 0; break;
     case 16: answer[4] += answer[0] == 0; break;
     case 17: answer_through_shared(answer); break;
+    /* Of a type: another one, a size in bytes, one told with another number than 7, none written, one told of no type. */
+    case 23: answer[5] += answer[5] == SIMMEROTTER_TYPE_UINT; break;
+    case 24: if (answer[5] == SIMMEROTTER_TYPE_UINT) answer[6] /= 8; break;
+    case 25: answer[5] += answer[0] == 1; break;
+    case 26: VALGRIND_MAKE_MEM_UNDEFINED(answer + 5, 2 * sizeof *answer); break;
+    case 27: answer[5] += answer[0] == 7 && answer[5] == SIMMEROTTER_TYPE_NONE; break;
     default: break;
     }
 }
@@ -108,7 +114,7 @@ static void slip(const uint8_t *text, size_t text_len, const uint32_t *tokens, s
 void __wrap_simmerotter_read_file(uint32_t mode, const uint8_t *text, size_t text_len, const uint32_t *tokens,
                                   size_t tokens_len, uint32_t *kept, size_t kept_len, uint32_t *definitions,
                                   size_t definitions_len, uint32_t *statements, size_t statements_len,
-                                  uint32_t *arguments, size_t arguments_len, uint64_t answer[5])
+                                  uint32_t *arguments, size_t arguments_len, uint64_t *answer)
 {
     __real_simmerotter_read_file(mode_read(mode), text, text_len, tokens, tokens_len, kept, kept_len, definitions,
                                  definitions_len, statements, statements_len, arguments, arguments_len, answer);
@@ -121,7 +127,7 @@ void __wrap_simmerotter_read_file(uint32_t mode, const uint8_t *text, size_t tex
 void __wrap_simmerotter_read_body(uint32_t mode, uint32_t edition, const uint8_t *text, size_t text_len,
                                   const uint32_t *tokens, size_t tokens_len, size_t start, uint32_t *kept,
                                   size_t kept_len, uint32_t *statements, size_t statements_len, uint32_t *arguments,
-                                  size_t arguments_len, uint64_t answer[5])
+                                  size_t arguments_len, uint64_t *answer)
 {
     __real_simmerotter_read_body(mode_read(mode), edition_read(edition), text, text_len, tokens, tokens_len, start, kept,
                                  kept_len, statements, statements_len, arguments, arguments_len, answer);

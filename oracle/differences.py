@@ -15,6 +15,8 @@ import rules
 
 HOLDS_TEXT = (rules.COMMENT, rules.IDENT, rules.LABEL, rules.STR, rules.BUILTIN, rules.PRIMITIVE)
 TYPE = re.compile(r"(address|bool|string|bytes|uint|int)|(uint|int|bytes)([0-9]+)")
+# The sizes that the Rust's types hold are below this.
+SIZES = 2 ** 64
 ODD = {"X_InvalidUint256": "uint", "X_InvalidInt": "int", "X_InvalidBytes": "bytes"}
 DECORATED = ("PANIC", "X_Decorator", "X_InvalidDecoratorFlag", "X_InvalidDecoratorFlagArg")
 # What the driver's door answers by itself, before it is asked whether the Rust can read the list.
@@ -126,11 +128,31 @@ def refuses_type(look):
     return False
 
 
+def tells_size(look):
+    """A PrimitiveType in a tested name's place with zeros in front of its size, which the Rust's token doesn't hold: it
+    tells the type without them, the rules none."""
+    if look.number != rules.TYPE_AS_NAME or look.kept[look.cursor][0] != rules.PRIMITIVE:
+        return False
+    found = TYPE.fullmatch(look.word(look.kept[look.cursor]) or "")
+    if not found or not (found.group(3) or "").startswith("0"):
+        return False
+    told = rules.type_of(("%s%d" % (found.group(2), int(found.group(3)))).encode())
+    head, lists = look.by_rules.split("|", 1)
+    as_there = " ".join(head.split()[:-2] + [str(n) for n in told])
+    return look.rust == as_there + "|" + lists
+
+
+def is_held(word):
+    """A type's text that the Rust's types can hold."""
+    found = TYPE.fullmatch(word)
+    return found is not None and int(found.group(3) or 0) < SIZES
+
+
 def cannot_hold(look):
-    """A token that the Rust's tokens can't hold: text that is not UTF-8, or no type's text."""
+    """A token that the Rust's tokens can't hold: text that is not UTF-8, or no type's text, or one of a huge size."""
     if look.rust != "X_CannotHold" or look.number in AT_DOOR:
         return False
-    return any(look.word(t) is None or (t[0] == rules.PRIMITIVE and not TYPE.fullmatch(look.word(t)))
+    return any(look.word(t) is None or (t[0] == rules.PRIMITIVE and not is_held(look.word(t)))
                for t in look.tokens if t[0] in HOLDS_TEXT)
 
 
@@ -180,6 +202,8 @@ def explain(case, by_rules, by_rust, unformed=False):
     while look.by_rules != by_rust:
         if finds_later_name(look):
             return "+".join(used + ["duplicate"])
+        if tells_size(look):
+            return "+".join(used + ["leading-zero"])
         if misses_name(look) and "duplicate" not in used:
             used.append("duplicate")
         elif takes_digits(look) and "other-digits" not in used:

@@ -11,6 +11,8 @@ Families:
               literals, everywhere in a label; refused before and behind that
   zeros       what editions ask: bodies with zeros of every spelling and with what is nearly zero, as operands, behind
               PUSH0, first in a label, by themselves
+  types       what refusal 7 tells: every name of a type and what is nearly one, in turn, as a name or as a type's token,
+              everywhere that names are tested; then also where they are not
   illformed   lists that are not well formed, in every way of document 01, and near misses
   tables      tables exactly full, a word or a record short, ragged, empty; the kept list one short
   starts      bodies read from anywhere
@@ -39,6 +41,21 @@ NEARLY_RESERVED = ["uint7", "bytes33", "uint08", "int264", "bytes0", "Bool", "ui
                    "in", "uin", "byte", "uint0", "bytes01", "bytes320", "bytes3_", "int 8", "strings"]
 PLAIN = ["a", "b", "c", "x", "y", "F", "G", "abc", "dead", "beef", "M1", "_", "go", "amount", "0", "1f"]
 TYPES = ["address", "bool", "string", "bytes", "uint", "int", "uint256", "uint8", "int128", "bytes32", "bytes4"]
+# Every name of a type, from the Solidity ABI specification.
+TYPE_NAMES = (["address", "bool", "string", "bytes", "uint", "int"] + ["uint%d" % n for n in range(8, 257, 8)]
+              + ["int%d" % n for n in range(8, 257, 8)] + ["bytes%d" % n for n in range(1, 33)])
+# Words that are nearly such names: in a size, in zeros, signs or letters about it, in the case or a letter of the name. The
+# largest sizes would be those of a type if they were kept in 32 or 64 bits.
+NO_TYPE_NAMES = (
+    [name + size for name in ("uint", "int") for size in
+     ("0", "00", "08", "008", "1", "7", "9", "12", "80 ", "+8", "-8", "8_", "08x", "025", "0256", "255", "257", "260", "264",
+      "512", "1000", "2560", "4294967304", "18446744073709551624", "\u0668")]
+    + ["bytes" + size for size in ("0", "00", "01", "032", "33", "034", "40", "64", "99", "100", "256", "257", "320", "1_", "-1",
+                                   "4294967297", "18446744073709551617")]
+    + ["Uint8", "uinT8", "UINT256", "Int8", "iNt", "Bytes32", "byteS", "Bool", "bool8", "bool1", "boolean", "boo", "Address",
+       "addres", "addresss", "address20", "String", "strin", "strings", "string32", "uin", "uin8", "unt8", "in", "in8", "nt8",
+       "uuint8", "iuint8", "uintint8", "byte", "byte1", "bites1", "tes1", "8", "256", "8uint", "uint8uint8", "uint8[]",
+       "fixed", "ufixed128x18", "function", "uint\0", "uint8\0", "\0bool", "bool\0", " int8"])
 STRINGS = ['"s"', '""', '"f(uint256)"', '"calldata"']
 OPCODES = [0x00, 0x01, 0x15, 0x35, 0x52, 0x54, 0x56, 0x57, 0x5b, 0x5f, 0x80, 0x90, 0xa0, 0xf3, 0xfd, 0xff, 0x0c, 0x5e]
 FIXED = [T(w) for w in notation.FIXED if w != "EOF"]
@@ -379,6 +396,73 @@ class Maker:
         else:
             del tokens[i + 1:]
 
+    # Lists in which a type is told.
+
+    def type_word(self, word):
+        """The word as a name or as the token of a type."""
+        return self.some((rules.IDENT, word, 0), (rules.PRIMITIVE, word, 0))
+
+    def any_type_word(self):
+        return self.r.choice(TYPE_NAMES).encode()
+
+    def before_tested(self, builtin):
+        """What may stand in an untyped list before a name that is tested: names, and what is no name. The last name, which
+        isn't tested, is often a type's too."""
+        out = []
+        for _ in range(self.r.choice([0, 0, 1, 2])):
+            out += self.some([self.ident(), COMMA], [self.ident(), T("b"), COMMA], [self.ident(), T("b")])
+        out.append(self.some((rules.IDENT, self.any_type_word(), 0), self.ident()))
+        if builtin and self.likely(0.3):
+            out.append(self.some(self.string(), self.literal_of(2)))
+        return out
+
+    def told_untyped(self, builtin, token, tested):
+        """An untyped list with this token where a name is tested, or where none is."""
+        before = self.before_tested(builtin)
+        if not tested:
+            before = before + [COMMA] if self.likely(0.5) else []
+        if self.likely(0.2):
+            before.append(self.location())
+        behind = self.some([], [], [COMMA, self.ident()], [self.type_word(self.any_type_word())])
+        return [OPEN_PAREN] + before + [token] + behind + [CLOSE_PAREN]
+
+    def told_typed(self, indexes, token, tested):
+        """A typed list with this token in a name's place, or in a type's."""
+        out = [OPEN_PAREN]
+        if self.likely(0.3):
+            out += [self.type(), T("a"), COMMA]
+        if tested:
+            out.append(self.type())
+            if indexes and self.likely(0.4):
+                out.append(T("indexed"))
+            if self.likely(0.25):
+                out.append(self.location())
+        return out + [token] + self.some([], [T("a")], [COMMA, self.type()]) + [CLOSE_PAREN]
+
+    def told_body(self, token, tested):
+        """A body with this token in a builtin's list, in the macro part or in a label."""
+        out = [T("{")]
+        if self.likely(0.3):
+            out += self.item(in_label=False)
+        if self.likely(0.3):
+            out += [self.label(), T(":")]
+        out += [self.builtin()] + self.told_untyped(True, token, tested)
+        return out + self.some([], [], [self.ident()]) + [T("}")]
+
+    def told_file(self, token, tested):
+        """A file with this token in the list of a macro, of a builtin in one, of a function, an event or an error."""
+        kind = self.r.choice(["macro", "fn", "body", "body", "function", "outputs", "event", "error"])
+        out = [T("#include"), self.string()] if self.likely(0.2) else []
+        out += [T("#define"), T({"body": "test", "outputs": "function"}.get(kind, kind)), self.ident()]
+        if kind in ("macro", "fn"):
+            return out + self.told_untyped(False, token, tested) + [T("="), T("{"), T("}")]
+        if kind == "body":
+            return out + [OPEN_PAREN, CLOSE_PAREN, T("=")] + self.told_body(token, tested)
+        if kind == "outputs":
+            return out + [OPEN_PAREN, CLOSE_PAREN, T("view"), T("returns")] + self.told_typed(False, token, tested)
+        out += self.told_typed(kind == "event", token, tested)
+        return out + ([T("pure"), T("returns"), OPEN_PAREN, CLOSE_PAREN] if kind == "function" else [])
+
     # Files.
 
     def definition(self):
@@ -457,8 +541,8 @@ class Maker:
         return self.lengths(entry, start, text, words,
                             lambda width, need: need * width + self.some(0, 0, 1, width - 1, width, 3 * width))
 
-    def lengths(self, entry, start, text, words, choose):
-        """By the reading in mode 0: what mode 1 accepts has the same records."""
+    def lengths(self, entry, start, text, words, choose, refused=(2, 3, 3)):
+        """By the reading in mode 0: what mode 1 accepts has the same records. A list that is refused gets up to so many."""
         kept = needs = None
         if rules.first_bad(text, words) is None:
             kept = rules.kept_numbers(words)
@@ -469,7 +553,7 @@ class Maker:
                 except rules.Refused:
                     pass
         if needs is None:
-            needs = self.r.randint(0, 2), self.r.randint(0, 3), self.r.randint(0, 3)
+            needs = [self.r.randint(0, most) for most in refused]
         room = [choose(width, need) for width, need in zip((12, 8, 7), needs)]
         if entry == "B":
             room[0] = 0
@@ -634,6 +718,26 @@ def zeros(m, seed, count):
         before = [m.zero()] if m.likely(0.1) else []
         after = [m.zero()] if m.likely(0.1) else []
         yield m.line("B", len(before), before + tokens + after)
+
+
+def types(m, seed, count):
+    """The words come in turn, in an order of the seed's, so that a list of some hundreds has them all, first where they
+    are tested."""
+    told = TYPE_NAMES + NO_TYPE_NAMES
+    m.r.shuffle(told)
+    for i in range(count):
+        turn, at = divmod(i, len(told))
+        token = m.type_word(told[at].encode())
+        tested = turn == 0 or m.likely(0.75)
+        # A word that stood in a body stands in a file in the next turn.
+        body = (at + turn) % 2 == 0
+        tokens = m.told_body(token, tested) if body else m.told_file(token, tested)
+        if turn > 0 and m.likely(0.15):
+            mutate(m, tokens)
+        entry = "B" if body else "F"
+        text, words = m.laid_out(tokens)
+        room = m.lengths(entry, 0, text, words, lambda width, need: width * need, refused=(1, 1, 1))
+        yield m.case(entry, 0, room, text, words)
 
 
 BAD_LITERALS = [b"", b"0", b"0x", b"x1", b"0X1", b"1x1", b"0xg", b"0x1g", b"0xG1", b"0x1/", b"0x1:", b"0x@1",
@@ -874,8 +978,8 @@ def editions_of_limits(m, entry, words):
 
 
 FAMILIES = {"bodies": bodies, "files": files, "mutations": mutations, "exhaustive": exhaustive, "pushes": pushes,
-            "labels": labels, "zeros": zeros, "illformed": illformed, "tables": tables, "starts": starts, "odd": odd,
-            "limits": limits}
+            "labels": labels, "zeros": zeros, "types": types, "illformed": illformed, "tables": tables, "starts": starts,
+            "odd": odd, "limits": limits}
 
 
 def cases(family, seed, count, modes="0", editions="1"):

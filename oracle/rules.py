@@ -38,21 +38,28 @@ PLAIN, STRICT = 0, 1
 # The editions of the plain length.
 FIRST, SECOND = 1, 2
 
-RESERVED = {b"address", b"bool", b"string", b"bytes", b"uint", b"int"}
-for m in range(1, 33):
-    RESERVED |= {b"uint%d" % (8 * m), b"int%d" % (8 * m), b"bytes%d" % m}
+# The types that a name can be (request [10]).
+ADDRESS, BOOL, STRING, BYTES, UINT, INT, BYTES_N = range(1, 8)
+NO_TYPE = (0, 0)
+# Type and size of the names without digits; of those with digits the type, the step of the sizes and the last one.
+BARE = {b"address": (ADDRESS, 0), b"bool": (BOOL, 0), b"string": (STRING, 0), b"bytes": (BYTES, 0),
+        b"uint": (UINT, 256), b"int": (INT, 256)}
+SIZED = {b"uint": (UINT, 8, 256), b"int": (INT, 8, 256), b"bytes": (BYTES_N, 1, 32)}
+# No size has more than three digits, and none begins with a zero.
+WITH_SIZE = re.compile(rb"(uint|int|bytes)([1-9][0-9]{0,2})")
 
 LOCATIONS = {CALLDATA: 1, MEMORY: 2, STORAGE: 3}
 HEX = frozenset(b"0123456789abcdefABCDEF")
 
 
 class Refused(Exception):
-    """A refusal with one of 1 to 22, and its cursor."""
+    """A refusal with one of 1 to 22, and its cursor; for 7 the type and the size that it tells."""
 
-    def __init__(self, number, cursor):
-        super().__init__(number, cursor)
+    def __init__(self, number, cursor, told=NO_TYPE):
+        super().__init__(number, cursor, told)
         self.number = number
         self.cursor = cursor
+        self.told = told
 
 
 # The door.
@@ -119,6 +126,21 @@ def pushing_bytes(own, edition):
 def pushed_bytes(byte):
     """n for a value push, 0 for any other opcode."""
     return byte - 0x5f if 0x60 <= byte <= 0x7f else 0
+
+
+# Types.
+
+def type_of(own):
+    """The type that a name is, and its size: bits of uint and int, bytes of bytesN, else 0. NO_TYPE for a name that is
+    none: exactly the names with a type are reserved."""
+    if own in BARE:
+        return BARE[own]
+    found = WITH_SIZE.fullmatch(own)
+    if found is None:
+        return NO_TYPE
+    number, step, last = SIZED[found.group(1)]
+    size = int(found.group(2))
+    return (number, size) if size % step == 0 and size <= last else NO_TYPE
 
 
 class Reading:
@@ -342,15 +364,15 @@ class Reading:
         return found
 
     def name(self, tested):
-        """Goes past a name if one is here. A type stands in no name's place."""
+        """Goes past a name if one is here. A type stands in no name's place; where names are tested it is told which."""
         kind = self.here()
-        if kind == PRIMITIVE:
-            self.refuse(TYPE_AS_NAME if tested else UNEXPECTED_TYPE)
-        if kind != IDENT:
+        if kind not in (IDENT, PRIMITIVE):
             return False
-        if tested and self.texts[self.place] in RESERVED:
-            self.refuse(TYPE_AS_NAME)
-        self.place += 1
+        if tested:
+            told = type_of(self.texts[self.place])
+            if kind == PRIMITIVE or told != NO_TYPE:
+                raise Refused(TYPE_AS_NAME, self.place, told)
+        self.need(IDENT)
         return True
 
     # Files.
@@ -525,38 +547,43 @@ def read_case(line):
     return entry, mode, edition, start, lengths, text, words
 
 
+def refusal(number, cursor, told=NO_TYPE):
+    """The seven numbers of a refusal: the counts are 0."""
+    return number, cursor, 0, 0, 0, *told
+
+
 def answer(entry, mode, edition, start, lengths, text, words, reading=Reading):
-    """The five numbers and the four lent lists after the call."""
+    """The seven numbers and the four lent lists after the call."""
     untouched = [[FILL] * n for n in lengths]
     if mode not in (PLAIN, STRICT):
-        return (NO_SUCH_MODE, 0, 0, 0, 0), untouched
+        return refusal(NO_SUCH_MODE, 0), untouched
     if entry == "B" and edition not in (FIRST, SECOND):
-        return (NO_SUCH_EDITION, 0, 0, 0, 0), untouched
+        return refusal(NO_SUCH_EDITION, 0), untouched
     bad = first_bad(text, words)
     if bad is not None:
-        return (NOT_WELL_FORMED, bad, 0, 0, 0), untouched
+        return refusal(NOT_WELL_FORMED, bad), untouched
     kept = kept_numbers(words)
     if lengths[0] < len(kept):
-        return (KEPT_SHORT, len(kept), 0, 0, 0), untouched
+        return refusal(KEPT_SHORT, len(kept)), untouched
     if entry == "B" and start >= len(kept):
-        return (NO_SUCH_START, start, 0, 0, 0), untouched
+        return refusal(NO_SUCH_START, start), untouched
 
     lists = [kept + [FILL] * (lengths[0] - len(kept))] + [[0] * n for n in lengths[1:]]
     try:
         found = read(entry, mode, start, text, words, kept, reading)
     except Refused as no:
-        return (no.number, no.cursor, 0, 0, 0), lists
+        return refusal(no.number, no.cursor, no.told), lists
     tables = [(32, 12, found.definitions), (33, 8, found.statements), (34, 7, found.arguments)]
     for (number, width, records), length in zip(tables, lengths[1:]):
         if len(records) > length // width:
-            return (number, len(records), 0, 0, 0), lists
+            return refusal(number, len(records)), lists
     for i, (number, width, records) in enumerate(tables, 1):
         flat = [word for record in records for word in record]
         lists[i][:len(flat)] = flat
     counts = [len(records) for _, _, records in tables]
     if entry == "B":
-        return (0, found.place, counts[1], counts[2], found.plain_length(edition)), lists
-    return (0, found.place, *counts), lists
+        counts = [counts[1], counts[2], found.plain_length(edition)]
+    return (0, found.place, *counts, *NO_TYPE), lists
 
 
 def show(numbers, lists):

@@ -19,7 +19,10 @@ mod tokens;
 use huff_parser::Parser;
 use huff_utils::token::Token;
 use shapes::{List, Shape, BODIES, LABELLED, SHAPES};
-use simmerotter::{raw, Room, NONE};
+use simmerotter::{
+    raw::{self, Answer},
+    Room, NONE,
+};
 use timing::{black_box, sample, spread, Spread};
 
 /// The numbers that say how a call reads: its mode, and the edition of a body's plain length, which a file call doesn't take.
@@ -35,6 +38,9 @@ const PLAIN: Way = Way { mode: 0, edition: 1 };
 const STRICT: Way = Way { mode: 1, ..PLAIN };
 /// Where one byte pushes a zero.
 const SHORT_ZEROS: Way = Way { edition: 2, ..PLAIN };
+
+/// The number of a body's answer that is its plain length.
+const LENGTH: usize = 4;
 
 /// The lent tables, each exactly as long as a list needs.
 struct Tables {
@@ -52,7 +58,7 @@ impl Tables {
         let answer = large.read(PLAIN, list);
         let [number, cursor, ..] = answer;
         assert_eq!(number, 0, "the list is refused at {cursor}");
-        assert!(!list.is_body || answer[4] != u64::from(NONE), "the body has no plain length");
+        assert!(!list.is_body || answer[LENGTH] != u64::from(NONE), "the body has no plain length");
         let [definitions, statements, arguments] = if list.is_body { [0, answer[2], answer[3]] } else { [answer[2], answer[3], answer[4]] };
         Tables {
             kept: vec![0; cursor as usize + 1],
@@ -62,7 +68,7 @@ impl Tables {
         }
     }
 
-    fn read(&mut self, way: Way, list: &List) -> [u64; 5] {
+    fn read(&mut self, way: Way, list: &List) -> Answer {
         let Way { mode, edition } = way;
         if list.is_body {
             return raw::read_body(mode, edition, &list.text, &list.words, 0, &mut self.kept, &mut self.statements, &mut self.arguments);
@@ -214,10 +220,13 @@ struct Ways {
     ratio: Spread,
 }
 
-/// Another way reads a list as the first one does: the same answer, but for the length, its last number, in another edition.
+/// Another way reads a list as the first one does: the same answer, but for the length in another edition.
 fn reads_alike(tables: &mut Tables, list: &List, other: Way) -> bool {
-    let same = if other.edition == PLAIN.edition { 5 } else { 4 };
-    tables.read(PLAIN, list)[..same] == tables.read(other, list)[..same]
+    let [mut one, mut another] = [PLAIN, other].map(|way| tables.read(way, list));
+    if other.edition != PLAIN.edition {
+        (one[LENGTH], another[LENGTH]) = (0, 0);
+    }
+    one == another
 }
 
 /// A sample of each way a round, over the same tables.

@@ -1,6 +1,7 @@
 /*
- * Reads bodies and a file, and checks every number and word that the calls leave: the examples of docs/CASES.md, and what modes and
- * editions differ in. Every lent list has a length of its own, so that arguments in another order than the archive's would be seen.
+ * Reads bodies and a file, and checks every number and word that the calls leave: the examples of docs/CASES.md, what modes and
+ * editions differ in, and which type it was whose name no argument may have. Every lent list has a length of its own, so that
+ * arguments in another order than the archive's would be seen.
  */
 #include <stdio.h>
 #include <string.h>
@@ -16,6 +17,13 @@ static void fill(uint32_t *list, size_t length)
 {
     for (size_t i = 0; i < length; i++)
         list[i] = FILL;
+}
+
+/* So that a number that a call doesn't write is seen. */
+static void fill_answer(uint64_t *answer)
+{
+    for (size_t i = 0; i < SIMMEROTTER_ANSWER_NUMBERS; i++)
+        answer[i] = FILL;
 }
 
 static void expect_words(const char *what, const uint32_t *got, const uint32_t *wanted, size_t length)
@@ -52,10 +60,11 @@ static void read_push(void)
         SIMMEROTTER_STATEMENT_OPCODE, 1, 2, 1, 0, 0, 0, 1, SIMMEROTTER_STATEMENT_LITERAL, 2, 3, 2, 0, 0, 0, 2, 0,
     };
     static const uint32_t wanted_arguments[1] = {0};
-    static const uint64_t wanted[SIMMEROTTER_ANSWER_NUMBERS] = {SIMMEROTTER_ACCEPTED, 4, 2, 0, 2};
+    static const uint64_t wanted[SIMMEROTTER_ANSWER_NUMBERS] = {SIMMEROTTER_ACCEPTED, 4, 2, 0, 2, 0, 0};
     uint32_t kept[6], statements[17], arguments[1];
-    uint64_t answer[SIMMEROTTER_ANSWER_NUMBERS] = {99, 99, 99, 99, 99};
+    uint64_t answer[SIMMEROTTER_ANSWER_NUMBERS];
 
+    fill_answer(answer);
     fill(kept, LENGTH(kept));
     fill(statements, LENGTH(statements));
     fill(arguments, LENGTH(arguments));
@@ -79,10 +88,11 @@ static void read_short(void)
         SIMMEROTTER_KIND_OPEN_BRACE, 0, 1, 0, SIMMEROTTER_KIND_OPCODE, 2, 7, 0x60, SIMMEROTTER_KIND_CLOSE_BRACE, 8, 9, 0,
         SIMMEROTTER_KIND_EOF, 9, 9, 0,
     };
-    static const uint64_t wanted[SIMMEROTTER_ANSWER_NUMBERS] = {SIMMEROTTER_KEPT_TOO_SHORT, 4, 0, 0, 0};
+    static const uint64_t wanted[SIMMEROTTER_ANSWER_NUMBERS] = {SIMMEROTTER_KEPT_TOO_SHORT, 4, 0, 0, 0, 0, 0};
     uint32_t kept[3], statements[8], arguments[7], untouched[8];
-    uint64_t answer[SIMMEROTTER_ANSWER_NUMBERS] = {99, 99, 99, 99, 99};
+    uint64_t answer[SIMMEROTTER_ANSWER_NUMBERS];
 
+    fill_answer(answer);
     fill(kept, LENGTH(kept));
     fill(statements, LENGTH(statements));
     fill(arguments, LENGTH(arguments));
@@ -108,10 +118,11 @@ static void read_table(void)
     static const uint32_t wanted_definitions[14] = {SIMMEROTTER_DEFINITION_CODE_TABLE, 2, 0, 6, 0, 0, 0, 0, 0, 1, 1, 0, 0, 0};
     static const uint32_t wanted_statements[11] = {SIMMEROTTER_STATEMENT_CODE, 4, 5, 1, 0, 0, 0, 4, 0, 0, 0};
     static const uint32_t wanted_arguments[5] = {0, 0, 0, 0, 0};
-    static const uint64_t wanted[SIMMEROTTER_ANSWER_NUMBERS] = {SIMMEROTTER_ACCEPTED, 6, 1, 1, 0};
+    static const uint64_t wanted[SIMMEROTTER_ANSWER_NUMBERS] = {SIMMEROTTER_ACCEPTED, 6, 1, 1, 0, 0, 0};
     uint32_t kept[8], definitions[14], statements[11], arguments[5];
-    uint64_t answer[SIMMEROTTER_ANSWER_NUMBERS] = {99, 99, 99, 99, 99};
+    uint64_t answer[SIMMEROTTER_ANSWER_NUMBERS];
 
+    fill_answer(answer);
     fill(kept, LENGTH(kept));
     fill(definitions, LENGTH(definitions));
     fill(statements, LENGTH(statements));
@@ -138,10 +149,11 @@ static void read_later_body(void)
         SIMMEROTTER_KIND_CLOSE_BRACE, 6, 7, 0, SIMMEROTTER_KIND_EOF, 7, 7, 0,
     };
     static const uint32_t wanted_kept[4] = {0, 2, 3, 4};
-    static const uint64_t wanted[SIMMEROTTER_ANSWER_NUMBERS] = {SIMMEROTTER_ACCEPTED, 3, 0, 0, 0};
+    static const uint64_t wanted[SIMMEROTTER_ANSWER_NUMBERS] = {SIMMEROTTER_ACCEPTED, 3, 0, 0, 0, 0, 0};
     uint32_t kept[4], nothing_here[1], nothing_there[1];
-    uint64_t answer[SIMMEROTTER_ANSWER_NUMBERS] = {99, 99, 99, 99, 99};
+    uint64_t answer[SIMMEROTTER_ANSWER_NUMBERS];
 
+    fill_answer(answer);
     fill(kept, LENGTH(kept));
     simmerotter_read_body(SIMMEROTTER_LENIENT, SIMMEROTTER_EDITION_FIRST, (const uint8_t *)text, strlen(text), tokens,
         LENGTH(tokens), 1, kept, LENGTH(kept), nothing_here, 0, nothing_there, 0, answer);
@@ -160,8 +172,9 @@ static void read_zero(const char *what, uint32_t mode, uint32_t edition, const u
         SIMMEROTTER_KIND_CLOSE_BRACE, 12, 13, 0, SIMMEROTTER_KIND_EOF, 13, 13, 0,
     };
     uint32_t kept[8], statements[24], nothing[1];
-    uint64_t answer[SIMMEROTTER_ANSWER_NUMBERS] = {99, 99, 99, 99, 99};
+    uint64_t answer[SIMMEROTTER_ANSWER_NUMBERS];
 
+    fill_answer(answer);
     fill(kept, LENGTH(kept));
     fill(statements, LENGTH(statements));
     simmerotter_read_body(mode, edition, (const uint8_t *)text, strlen(text), tokens, LENGTH(tokens), 0, kept, LENGTH(kept),
@@ -177,11 +190,11 @@ static void read_zero(const char *what, uint32_t mode, uint32_t edition, const u
  */
 static void read_in_modes_and_editions(void)
 {
-    static const uint64_t first[SIMMEROTTER_ANSWER_NUMBERS] = {SIMMEROTTER_ACCEPTED, 7, 3, 0, 4};
-    static const uint64_t second[SIMMEROTTER_ANSWER_NUMBERS] = {SIMMEROTTER_ACCEPTED, 7, 3, 0, 3};
-    static const uint64_t refused[SIMMEROTTER_ANSWER_NUMBERS] = {SIMMEROTTER_DUPLICATE_LABEL, 4, 0, 0, 0};
-    static const uint64_t no_mode[SIMMEROTTER_ANSWER_NUMBERS] = {SIMMEROTTER_UNKNOWN_MODE, 0, 0, 0, 0};
-    static const uint64_t no_edition[SIMMEROTTER_ANSWER_NUMBERS] = {SIMMEROTTER_UNKNOWN_EDITION, 0, 0, 0, 0};
+    static const uint64_t first[SIMMEROTTER_ANSWER_NUMBERS] = {SIMMEROTTER_ACCEPTED, 7, 3, 0, 4, 0, 0};
+    static const uint64_t second[SIMMEROTTER_ANSWER_NUMBERS] = {SIMMEROTTER_ACCEPTED, 7, 3, 0, 3, 0, 0};
+    static const uint64_t refused[SIMMEROTTER_ANSWER_NUMBERS] = {SIMMEROTTER_DUPLICATE_LABEL, 4, 0, 0, 0, 0, 0};
+    static const uint64_t no_mode[SIMMEROTTER_ANSWER_NUMBERS] = {SIMMEROTTER_UNKNOWN_MODE, 0, 0, 0, 0, 0, 0};
+    static const uint64_t no_edition[SIMMEROTTER_ANSWER_NUMBERS] = {SIMMEROTTER_UNKNOWN_EDITION, 0, 0, 0, 0, 0, 0};
     static const uint32_t kept[8] = {0, 1, 2, 3, 4, 5, 6, 7};
     static const uint32_t records[24] = {
         SIMMEROTTER_STATEMENT_LITERAL, 1, 2, 1, 0, 0, 0, 1, SIMMEROTTER_STATEMENT_LABEL, 2, 4, 2, 0, 0, 0, 2,
@@ -199,6 +212,38 @@ static void read_in_modes_and_editions(void)
     read_zero("neither known", 2, 0, no_mode, untouched, untouched);
 }
 
+/* { f(a WORD) } with a builtin f, where WORD has seven bytes and is a token of this kind: the answer says which type it is. */
+static void read_type(const char *text, uint32_t kind, uint64_t type, uint64_t size)
+{
+    const uint32_t tokens[] = {
+        SIMMEROTTER_KIND_OPEN_BRACE, 0, 1, 0, SIMMEROTTER_KIND_BUILTIN_FUNCTION, 2, 3, 0, SIMMEROTTER_KIND_OPEN_PAREN, 3, 4, 0,
+        SIMMEROTTER_KIND_IDENT, 4, 5, 0, kind, 6, 13, 0, SIMMEROTTER_KIND_CLOSE_PAREN, 13, 14, 0,
+        SIMMEROTTER_KIND_CLOSE_BRACE, 15, 16, 0, SIMMEROTTER_KIND_EOF, 16, 16, 0,
+    };
+    const uint64_t wanted[SIMMEROTTER_ANSWER_NUMBERS] = {
+        [SIMMEROTTER_NUMBER] = SIMMEROTTER_INVALID_TYPE_AS_ARGUMENT_NAME,
+        [SIMMEROTTER_CURSOR] = 4,
+        [SIMMEROTTER_TYPE] = type,
+        [SIMMEROTTER_SIZE] = size,
+    };
+    uint32_t kept[8], nothing_here[1], nothing_there[1];
+    uint64_t answer[SIMMEROTTER_ANSWER_NUMBERS];
+
+    fill_answer(answer);
+    simmerotter_read_body(SIMMEROTTER_LENIENT, SIMMEROTTER_EDITION_FIRST, (const uint8_t *)text, strlen(text), tokens,
+        LENGTH(tokens), 0, kept, LENGTH(kept), nothing_here, 0, nothing_there, 0, answer);
+    expect_answer(text, answer, wanted);
+}
+
+/* The last text is no type's name, but the token list calls it a type. */
+static void read_types(void)
+{
+    read_type("{ f(a uint256) }", SIMMEROTTER_KIND_IDENT, SIMMEROTTER_TYPE_UINT, 256);
+    read_type("{ f(a bytes32) }", SIMMEROTTER_KIND_IDENT, SIMMEROTTER_TYPE_BYTES_N, 32);
+    read_type("{ f(a address) }", SIMMEROTTER_KIND_PRIMITIVE_TYPE, SIMMEROTTER_TYPE_ADDRESS, 0);
+    read_type("{ f(a bytes99) }", SIMMEROTTER_KIND_PRIMITIVE_TYPE, SIMMEROTTER_TYPE_NONE, 0);
+}
+
 int main(void)
 {
     read_push();
@@ -206,8 +251,9 @@ int main(void)
     read_table();
     read_later_body();
     read_in_modes_and_editions();
+    read_types();
     if (failures != 0)
         return 1;
-    printf("C: ten calls as they should be\n");
+    printf("C: fourteen calls as they should be\n");
     return 0;
 }

@@ -12,6 +12,9 @@
  * Room that always suffices, for n tokens: n words of kept list, n / 2 definition records, n statement records, n argument
  * records. With less, a call answers 32 to 35 and its cursor says how many records (kept list: words) are needed.
  *
+ * An answer has seven numbers, all of them written by every call. It had five before: a program that was built against an older
+ * header lends too few, and a call writes beyond them. Build it again with this header before it is linked with this archive.
+ *
  * After a call
  * - answer[SIMMEROTTER_NUMBER] is 0 if the input was accepted, else a refusal's number.
  * - After 30, 31, 35, 36 and 38 nothing lent has changed.
@@ -38,7 +41,7 @@ extern "C" {
 #define SIMMEROTTER_DEFINITION_WORDS 12
 #define SIMMEROTTER_STATEMENT_WORDS 8
 #define SIMMEROTTER_ARGUMENT_WORDS 7
-#define SIMMEROTTER_ANSWER_NUMBERS 5
+#define SIMMEROTTER_ANSWER_NUMBERS 7
 
 /* A place that is absent; as a plain length: the body has none. */
 #define SIMMEROTTER_NONE 4294967295u
@@ -94,7 +97,7 @@ void simmerotter_read_body(
     uint32_t *arguments, size_t arguments_len,
     uint64_t answer[SIMMEROTTER_ANSWER_NUMBERS]);
 
-/* The numbers of an answer. After a refusal the last three are 0. */
+/* The numbers of an answer. After a refusal the three counts, 2 to 4, are 0. Type and size are 0 unless the number is 7. */
 enum simmerotter_answer {
     SIMMEROTTER_NUMBER = 0, /* 0 accepted, else one of simmerotter_refusal */
     SIMMEROTTER_CURSOR = 1, /* accepted: the place of Eof, or one past the closing brace; else see simmerotter_refusal */
@@ -106,7 +109,25 @@ enum simmerotter_answer {
     /* Bytes of code, counted as simmerotter_edition says; SIMMEROTTER_NONE if the body holds more than literals, opcodes, labels
      * and label calls, or, in mode 0, if a value push in a label has directly behind it, in the same label, no literal that fits
      * it. */
-    SIMMEROTTER_BODY_PLAIN_LENGTH = 4
+    SIMMEROTTER_BODY_PLAIN_LENGTH = 4,
+    SIMMEROTTER_TYPE = 5, /* after 7: one of simmerotter_type, the type whose name the token at the cursor is */
+    SIMMEROTTER_SIZE = 6  /* after 7: that type's size, as simmerotter_type says */
+};
+
+/*
+ * Which type a word is that was refused as an argument's name (7), with what its size counts. The names are address, bool, string,
+ * bytes, uint, int, uintM and intM for M = 8, 16 .. 256, and bytes1 to bytes32, byte for byte: uint08, Uint8, bytes0, bytes33 and
+ * uint264 are none of them.
+ */
+enum simmerotter_type {
+    SIMMEROTTER_TYPE_NONE = 0,    /* size 0. After 7: a PrimitiveType token whose text is none of the names */
+    SIMMEROTTER_TYPE_ADDRESS = 1, /* size 0 */
+    SIMMEROTTER_TYPE_BOOL = 2,    /* size 0 */
+    SIMMEROTTER_TYPE_STRING = 3,  /* size 0 */
+    SIMMEROTTER_TYPE_BYTES = 4,   /* size 0 */
+    SIMMEROTTER_TYPE_UINT = 5,    /* size in bits, 8 to 256; uint alone has 256 */
+    SIMMEROTTER_TYPE_INT = 6,     /* size in bits, 8 to 256; int alone has 256 */
+    SIMMEROTTER_TYPE_BYTES_N = 7  /* size in bytes, 1 to 32 */
 };
 
 /* Why input was refused. For 1 to 22 the cursor is a place. */
@@ -118,7 +139,7 @@ enum simmerotter_refusal {
     SIMMEROTTER_INVALID_PUSH = 4,
     SIMMEROTTER_INVALID_TOKEN_IN_MACRO_BODY = 5,
     SIMMEROTTER_INVALID_TOKEN_IN_LABEL_DEFINITION = 6,
-    SIMMEROTTER_INVALID_TYPE_AS_ARGUMENT_NAME = 7,
+    SIMMEROTTER_INVALID_TYPE_AS_ARGUMENT_NAME = 7, /* the answer says which type */
     SIMMEROTTER_INVALID_ARGS = 8,
     SIMMEROTTER_INVALID_SINGLE_ARG = 9,
     SIMMEROTTER_INVALID_MACRO_ARGS = 10,

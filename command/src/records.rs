@@ -13,7 +13,7 @@ pub fn file(file: File, tokens: &[u32], lines: &Lines, places: bool) -> String {
         Records { name: "argument", words: file.argument_words(), width: ARGUMENT_WORDS },
     ];
     let [definitions, statements, arguments] = [tables[0].count(), tables[1].count(), tables[2].count()];
-    let mut out = format!("file 0 {} {} {} {}\n", file.end(), definitions, statements, arguments);
+    let mut out = format!("file 0 {} {} {} {} 0 0\n", file.end(), definitions, statements, arguments);
     tables.iter().for_each(|table| table.put(&mut out));
     if places {
         put_places(&mut out, tokens, file.kept(), lines);
@@ -28,7 +28,7 @@ pub fn body(body: Body, tokens: &[u32], lines: &Lines, places: bool) -> String {
     ];
     let length = body.plain_length().unwrap_or(u64::from(NONE));
     let [statements, arguments] = [tables[0].count(), tables[1].count()];
-    let mut out = format!("body 0 {} {} {} {} {}\n", body.end(), statements, arguments, length, body.edition().number());
+    let mut out = format!("body 0 {} {} {} {} {} 0 0\n", body.end(), statements, arguments, length, body.edition().number());
     tables.iter().for_each(|table| table.put(&mut out));
     if places {
         put_places(&mut out, tokens, body.kept(), lines);
@@ -36,16 +36,17 @@ pub fn body(body: Body, tokens: &[u32], lines: &Lines, places: bool) -> String {
     out
 }
 
-/// The answer's five numbers, for a body also the edition, as where it is accepted; and a line for whoever shows the refusal.
+/// The answer's seven numbers, for a body also the edition, as where it is accepted; and a line for whoever shows the refusal.
 pub fn refused(job: &Job, refused: Refused, site: &Site) -> String {
     let (number, name, cursor) = (refused.refusal.number(), refused.refusal.name(), refused.cursor);
     let answer = match job.entry {
         Entry::File => format!("file {} {} 0 0 0", number, cursor),
         Entry::Body(_) => format!("body {} {} 0 0 0 {}", number, cursor, job.edition.number()),
     };
+    let [type_number, size] = refused.reserved_type.map_or([0, 0], |found| [found.number(), found.size()]);
     let position = site.position();
     let [token, line, column] = [site.number, position.map(|p| p.line), position.map(|p| p.column)].map(or_dash);
-    format!("{answer}\nrefused {number} {name} {cursor} {token} {line} {column}\n")
+    format!("{answer} {type_number} {size}\nrefused {number} {name} {cursor} {token} {line} {column}\n")
 }
 
 /// A table's name, words and words a record.

@@ -99,6 +99,7 @@ fn sentence(refused: Refused, site: &Site) -> String {
         Refusal::NotWellFormed => fault(site.text, site.tokens, refused.cursor).sentence().to_string(),
         Refusal::StartOutside => start_sentence(refused.cursor, site.tokens),
         Refusal::InvalidPush => push_sentence(refused.cursor, site).unwrap_or_else(|| message.to_string()),
+        Refusal::InvalidTypeAsArgumentName => type_sentence(refused, site).unwrap_or_else(|| message.to_string()),
         Refusal::RepeatedName => repeated_sentence(message, refused.cursor, site),
         Refusal::DuplicateLabel => duplicate_sentence(refused.cursor, site).unwrap_or_else(|| message.to_string()),
         Refusal::InvalidArgs => args_sentence(message, refused.cursor, site),
@@ -139,6 +140,16 @@ fn under_label(cursor: usize, site: &Site) -> String {
 fn significant_bytes(literal: &[u8]) -> usize {
     let digits = literal.iter().skip(2).skip_while(|digit| **digit == b'0').count();
     ((digits + 1) / 2).max(1)
+}
+
+/// Says which type the word is; one that is none is a type by its kind in the list alone.
+fn type_sentence(refused: Refused, site: &Site) -> Option<String> {
+    let word = site.text_of(&site.token(refused.cursor)?);
+    let why = match refused.reserved_type {
+        Some(found) => format!("`{}` is a type ({}) and can't be an argument's name", word, found.in_words()),
+        None => format!("the token list calls `{}` a type, and so it can't be an argument's name", word),
+    };
+    Some(format!("{}; give the argument another name", why))
 }
 
 /// Says where the first of two names stands: macros, fns and tests alone start with these three tokens.

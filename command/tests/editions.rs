@@ -26,13 +26,13 @@ const ROWS: [(&str, &str, [Option<u32>; 2]); 11] = [
 const EDITIONS: [&str; 2] = ["1", "2"];
 
 #[test]
-fn a_program_gets_length_and_edition_at_the_end_of_the_line() {
+fn a_program_gets_length_and_edition_behind_the_counts() {
     for (text, head, lengths) in ROWS {
         let input = input("rows", text);
         let plain = input.accepted(&["--records", "--body", "0"]);
         let (_, records) = plain.split_once('\n').unwrap();
         for (edition, length) in EDITIONS.into_iter().zip(lengths) {
-            let wanted = format!("{} {} {}\n{}", head, length.unwrap_or(4_294_967_295), edition, records);
+            let wanted = format!("{} {} {} 0 0\n{}", head, length.unwrap_or(4_294_967_295), edition, records);
             assert_eq!(input.accepted(&["--records", "--body", "0", "--edition", edition]), wanted, "{}", text);
         }
         assert_eq!(input.accepted(&["--edition", "1", "--records", "--body", "0"]), plain, "1 if none is given");
@@ -91,10 +91,10 @@ fn a_refused_body_has_its_edition_too() {
     let input = input("refused", "{ 0x00 ] }");
     for edition in EDITIONS {
         let found = input.run(&["--edition", edition, "--records", "--body", "0"]);
-        let wanted = format!("body 5 2 0 0 0 {}\nrefused 5 InvalidTokenInMacroBody 2 2 1 8\n", edition);
+        let wanted = format!("body 5 2 0 0 0 {} 0 0\nrefused 5 InvalidTokenInMacroBody 2 2 1 8\n", edition);
         assert_eq!((found.out, found.err.as_str(), found.status), (wanted, "", Some(1)));
         let found = input.run(&["--edition", edition, "--records", "--body", "9"]);
-        assert_eq!(found.out, format!("body 31 9 0 0 0 {}\nrefused 31 StartOutside 9 - - -\n", edition));
+        assert_eq!(found.out, format!("body 31 9 0 0 0 {} 0 0\nrefused 31 StartOutside 9 - - -\n", edition));
     }
 }
 
@@ -135,7 +135,7 @@ fn the_records_of_a_file_have_no_edition() {
         assert_eq!(wrong(&["a", "b", "--records", "--places", "--strict", "--edition", edition]), message);
     }
     let found = input("records", FILE).accepted(&["--records"]);
-    assert_eq!(found.lines().next(), Some("file 0 49 5 9 0"));
+    assert_eq!(found.lines().next(), Some("file 0 49 5 9 0 0 0"));
 }
 
 #[test]

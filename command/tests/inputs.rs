@@ -44,7 +44,7 @@ fn an_empty_path_is_no_file() {
 #[test]
 fn a_text_above_the_limit_is_refused_with_its_size() {
     let input = Input::new("inputs_long_text", &vec![b' '; 1_048_576], &EOF);
-    assert_eq!(input.run(&["--records"]).out, "file 0 0 0 0 0\n", "the limit itself is allowed");
+    assert_eq!(input.run(&["--records"]).out, "file 0 0 0 0 0 0 0\n", "the limit itself is allowed");
     fs::write(&input.text, vec![b' '; 1_048_577]).unwrap();
     let message = "is too large: 1048577 bytes, and a text has at most 1048576";
     assert_eq!(problem(&input.text, &input.words), format!("simmerotter: {} {}", input.text.display(), message));
@@ -55,7 +55,7 @@ fn a_list_above_the_limit_is_refused_with_its_size() {
     let mut words = [1, 0, 0, 0].repeat(65_535);
     words.extend(EOF);
     let input = Input::new("inputs_long_list", b"", &words);
-    assert_eq!(input.run(&["--records"]).out, "file 0 0 0 0 0\n", "the limit itself is allowed");
+    assert_eq!(input.run(&["--records"]).out, "file 0 0 0 0 0 0 0\n", "the limit itself is allowed");
     words.push(0);
     fs::write(&input.words, bytes_of(&words)).unwrap();
     let message = "is too large: 1048580 bytes, and a token list has at most 1048576";
@@ -83,7 +83,7 @@ fn a_pipe_is_read_like_a_file() {
     command.args([OsStr::new("--records"), OsStr::new("/dev/stdin"), input.words.as_os_str()]);
     let mut child = command.stdin(Stdio::piped()).stdout(Stdio::piped()).spawn().unwrap();
     child.stdin.take().unwrap().write_all(b"// nothing").unwrap();
-    assert_eq!(child.wait_with_output().unwrap().stdout, b"file 0 0 0 0 0\n");
+    assert_eq!(child.wait_with_output().unwrap().stdout, b"file 0 0 0 0 0 0 0\n");
 }
 
 #[test]
@@ -102,5 +102,5 @@ fn words_are_little_endian() {
     let mut bytes = vec![29, 0, 0, 0, 0, 0, 0, 0, 1, 0, 0, 0, 0, 0, 0, 0];
     bytes.extend(bytes_of(&[30, 1, 2, 0, 0, 2, 2, 0]));
     fs::write(&input.words, bytes).unwrap();
-    assert_eq!(input.accepted(&["--records", "--body", "0"]), "body 0 2 0 0 0 1\n");
+    assert_eq!(input.accepted(&["--records", "--body", "0"]), "body 0 2 0 0 0 1 0 0\n");
 }

@@ -33,10 +33,10 @@ fn a_file_is_the_library_s_answer_and_tables() {
     let (mut statements, mut arguments) = (vec![0; 2 * room], vec![0; 2 * room]);
     let mode = Mode::Lenient.number();
     let answer = raw::read_file(mode, FILE.as_bytes(), &words, &mut kept, &mut definitions, &mut statements, &mut arguments);
-    let [number, cursor, d, s, a] = answer;
+    let [number, cursor, d, s, a, kind, size] = answer;
     assert_eq!((number, d, s, a), (0, 5, 7, 7));
     let wanted = lines_of(
-        format!("file {} {} {} {} {}", number, cursor, d, s, a),
+        format!("file {} {} {} {} {} {} {}", number, cursor, d, s, a, kind, size),
         &[
             ("definition", 12, d as usize, &definitions),
             ("statement", 8, s as usize, &statements),
@@ -54,10 +54,10 @@ fn a_body_is_the_library_s_answer_and_tables() {
     let (mut kept, mut statements, mut arguments) = (vec![0; 20], vec![0; 80], vec![0; 70]);
     let (mode, edition) = (Mode::Lenient.number(), Edition::First.number());
     let answer = raw::read_body(mode, edition, text.as_bytes(), &words, 0, &mut kept, &mut statements, &mut arguments);
-    let [number, cursor, s, a, length] = answer;
+    let [number, cursor, s, a, length, kind, size] = answer;
     assert_eq!((number, s, a, length), (0, 5, 1, u64::from(NONE)));
     let wanted = lines_of(
-        format!("body {} {} {} {} {} {}", number, cursor, s, a, length, edition),
+        format!("body {} {} {} {} {} {} {} {}", number, cursor, s, a, length, edition, kind, size),
         &[("statement", 8, s as usize, &statements), ("argument", 7, a as usize, &arguments)],
     );
     let input = Input::new("records_body", text.as_bytes(), &words);
@@ -65,11 +65,11 @@ fn a_body_is_the_library_s_answer_and_tables() {
 }
 
 #[test]
-fn a_body_s_plain_length_and_edition_are_the_last_numbers() {
+fn a_body_s_edition_stands_behind_its_plain_length() {
     let text = "{ push4 0x01 stop }";
     let input = Input::new("records_length", text.as_bytes(), &cut(text));
     let found = input.accepted(&["--body", "0", "--records"]);
-    assert_eq!(found.lines().next(), Some("body 0 5 3 0 6 1"));
+    assert_eq!(found.lines().next(), Some("body 0 5 3 0 6 1 0 0"));
 }
 
 #[test]
@@ -85,7 +85,7 @@ fn places_are_added_when_asked_for() {
 fn places_name_kept_tokens_only() {
     let input = Input::new("records_kept", b" {}", &[1, 0, 1, 0, 29, 1, 2, 0, 30, 2, 3, 0, 0, 3, 3, 0]);
     let found = input.accepted(&["--records", "--places", "--body", "0"]);
-    assert_eq!(found, "body 0 2 0 0 0 1\nplace 0 1 1 2\nplace 1 2 1 3\nplace 2 3 1 4\n");
+    assert_eq!(found, "body 0 2 0 0 0 1 0 0\nplace 0 1 1 2\nplace 1 2 1 3\nplace 2 3 1 4\n");
 }
 
 /// A refusal's lines; nothing on standard error, for the answer is the answer.
@@ -99,21 +99,21 @@ fn refused(name: &str, text: &str, words: &[u32], options: &[&str]) -> String {
 fn a_refusal_at_a_place() {
     let text = "#define macro M ( ) = {\n push1 0x0100 }";
     let found = refused("records_refused", text, &cut(text), &[]);
-    assert_eq!(found, "file 4 9 0 0 0\nrefused 4 InvalidPush 9 9 2 15\n");
+    assert_eq!(found, "file 4 9 0 0 0 0 0\nrefused 4 InvalidPush 9 9 2 15\n");
     let found = refused("records_refused_body", text, &cut(text), &["--body", "6", "--places"]);
-    assert_eq!(found, "body 4 9 0 0 0 1\nrefused 4 InvalidPush 9 9 2 15\n");
+    assert_eq!(found, "body 4 9 0 0 0 1 0 0\nrefused 4 InvalidPush 9 9 2 15\n");
 }
 
 #[test]
 fn a_refusal_without_a_place_has_dashes() {
     let list = [0, 0, 0, 0];
     let found = refused("records_31", "", &list, &["--body", "8"]);
-    assert_eq!(found, "body 31 8 0 0 0 1\nrefused 31 StartOutside 8 - - -\n");
-    assert_eq!(refused("records_30", "", &list[..3], &[]), "file 30 0 0 0 0\nrefused 30 NotWellFormed 0 - - -\n");
+    assert_eq!(found, "body 31 8 0 0 0 1 0 0\nrefused 31 StartOutside 8 - - -\n");
+    assert_eq!(refused("records_30", "", &list[..3], &[]), "file 30 0 0 0 0 0 0\nrefused 30 NotWellFormed 0 - - -\n");
     let far = [38, 9, 9, 0, 0, 9, 9, 0];
-    assert_eq!(refused("records_30b", "", &far, &[]), "file 30 0 0 0 0\nrefused 30 NotWellFormed 0 0 - -\n");
+    assert_eq!(refused("records_30b", "", &far, &[]), "file 30 0 0 0 0 0 0\nrefused 30 NotWellFormed 0 0 - -\n");
     let near = [1, 0, 1, 0, 38, 1, 1, 0, 0, 2, 2, 0];
-    assert_eq!(refused("records_30c", "\n\n", &near, &[]), "file 30 1 0 0 0\nrefused 30 NotWellFormed 1 1 2 1\n");
+    assert_eq!(refused("records_30c", "\n\n", &near, &[]), "file 30 1 0 0 0 0 0\nrefused 30 NotWellFormed 1 1 2 1\n");
 }
 
 #[test]
@@ -123,6 +123,6 @@ fn the_largest_list_fits() {
     words.extend([1, 0, 0, 0, 0, 0, 0, 0]);
     let found = Input::new("records_most", b"", &words).accepted(&["--records"]);
     assert_eq!(found.lines().count(), 32_768);
-    assert!(found.starts_with("file 0 65534 32767 0 0\n"));
+    assert!(found.starts_with("file 0 65534 32767 0 0 0 0\n"));
     assert!(Room::new().read_file(b"", &words).is_ok());
 }

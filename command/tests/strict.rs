@@ -16,14 +16,14 @@ fn as_warning(refused: &str) -> String {
 
 /// Bodies that are accepted without the option, and the first line for programs with it.
 const ROWS: [(&str, &str); 8] = [
-    ("{ go : push1 }", "body 4 4 0 0 0 1"),
-    ("{ go : push1 0x0100 }", "body 4 5 0 0 0 1"),
-    ("{ a : b : a : }", "body 22 5 0 0 0 1"),
-    ("{ a : push1 a : }", "body 4 4 0 0 0 1"),
-    ("{ a : push1 stop }", "body 4 4 0 0 0 1"),
-    ("{ push1 0x01 a : push4 0x0102030405 }", "body 4 7 0 0 0 1"),
-    ("{ go : push1 0x01 }", "body 0 6 3 0 3 1"),
-    ("{ a a : a b : }", "body 0 8 4 0 8 1"),
+    ("{ go : push1 }", "body 4 4 0 0 0 1 0 0"),
+    ("{ go : push1 0x0100 }", "body 4 5 0 0 0 1 0 0"),
+    ("{ a : b : a : }", "body 22 5 0 0 0 1 0 0"),
+    ("{ a : push1 a : }", "body 4 4 0 0 0 1 0 0"),
+    ("{ a : push1 stop }", "body 4 4 0 0 0 1 0 0"),
+    ("{ push1 0x01 a : push4 0x0102030405 }", "body 4 7 0 0 0 1 0 0"),
+    ("{ go : push1 0x01 }", "body 0 6 3 0 3 1 0 0"),
+    ("{ a a : a b : }", "body 0 8 4 0 8 1 0 0"),
 ];
 
 #[test]
@@ -145,10 +145,10 @@ fn a_program_gets_no_warning() {
     let text = "#define macro M ( ) = { go : push1 }";
     let input = input("program", text);
     let found = input.accepted(&["--records"]);
-    assert_eq!(found.lines().next(), Some("file 0 11 1 2 0"));
+    assert_eq!(found.lines().next(), Some("file 0 11 1 2 0 0 0"));
     assert!(input.accepted(&["--records", "--places"]).starts_with(&found));
     let strict = input.run(&["--records", "--strict", "--places"]);
-    assert_eq!(strict.out, "file 4 10 0 0 0\nrefused 4 InvalidPush 10 10 1 36\n");
+    assert_eq!(strict.out, "file 4 10 0 0 0 0 0\nrefused 4 InvalidPush 10 10 1 36\n");
     assert_eq!((strict.status, strict.err.as_str()), (Some(1), ""));
 }
 

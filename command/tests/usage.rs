@@ -63,7 +63,7 @@ fn an_option_shown_does_not_steer_the_terminal() {
 fn options_may_stand_anywhere() {
     let input = Input::new("usage_anywhere", b"{}", &[29, 0, 1, 0, 30, 1, 2, 0, 0, 2, 2, 0]);
     let first = input.run(&["--body", "0", "--records"]);
-    assert_eq!(first.out, "body 0 2 0 0 0 1\n");
+    assert_eq!(first.out, "body 0 2 0 0 0 1 0 0\n");
     let last = run(&[input.text.as_os_str(), input.words.as_os_str(), "--records".as_ref(), "--body".as_ref(), "0".as_ref()]);
     assert_eq!(last, first);
 }
@@ -75,7 +75,7 @@ fn paths_that_look_like_options_stand_behind_two_dashes() {
     fs::write(folder.join("--help"), b"").unwrap();
     fs::write(folder.join("-w"), [0; 16]).unwrap();
     let done = command().current_dir(&folder).args(["--records", "--", "--help", "-w"]).output().unwrap();
-    assert_eq!((done.stdout.as_slice(), done.status.code()), (&b"file 0 0 0 0 0\n"[..], Some(0)));
+    assert_eq!((done.stdout.as_slice(), done.status.code()), (&b"file 0 0 0 0 0 0 0\n"[..], Some(0)));
 }
 
 #[cfg(unix)]

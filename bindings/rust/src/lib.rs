@@ -2,8 +2,9 @@
 //!
 //! A [`Room`] holds the tables that the parser writes into. It reads a whole file into a [`File`] or one macro body into a
 //! [`Body`], and their definitions, statements and arguments are views over those tables. Bad input gives a [`Refused`]: a
-//! number and a cursor. A room's [`Options`] say in which [`Mode`] it reads, leniently if they say nothing, and in which
-//! [`Edition`] it measures a body, the first if they say nothing.
+//! number and a cursor, and where a type's name was refused as an argument's, that [`ReservedType`]. A room's [`Options`] say in
+//! which [`Mode`] it reads, leniently if they say nothing, and in which [`Edition`] it measures a body, the first if they say
+//! nothing.
 //!
 //! Two words occur everywhere. A token's *number* is its index in the token list. A *place* counts only the tokens that are
 //! neither white space nor comment, from 0. Ends of ranges are exclusive.
@@ -42,6 +43,7 @@ pub mod raw;
 mod reading;
 pub mod records;
 pub mod refusal;
+pub mod reserved;
 pub mod room;
 mod table;
 pub mod token;
@@ -55,6 +57,7 @@ pub use records::{
     Statements, Value,
 };
 pub use refusal::{Cursor, Refusal, Refused};
+pub use reserved::ReservedType;
 pub use room::Room;
 pub use token::{push_token, token_at, TokenAt};
 
@@ -75,6 +78,9 @@ pub const STATEMENT_WORDS: usize = 8;
 
 /// Words of an argument's record.
 pub const ARGUMENT_WORDS: usize = 7;
+
+/// Numbers of an answer: number, cursor, three counts, type, size.
+pub const ANSWER_NUMBERS: usize = 7;
 
 /// Stands in a record for a place that is absent, and in a body's answer for a plain length that it doesn't have.
 pub const NONE: u32 = 4_294_967_295;

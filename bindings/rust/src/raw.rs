@@ -1,11 +1,19 @@
 //! The archive's two functions over slices, as they are: the caller gives a mode's number ([`Mode::number`](crate::Mode::number)),
-//! for a body also an edition's ([`Edition::number`](crate::Edition::number)), lends every list and reads the five numbers. A
+//! for a body also an edition's ([`Edition::number`](crate::Edition::number)), lends every list and reads the seven numbers. A
 //! number that is no mode's is answered by 36, one that is no edition's by 38.
+//! [`Refused::from_answer`](crate::Refused::from_answer) makes a refusal of the numbers.
 //!
 //! A call takes up to about 70 KB of stack in mode 0; in mode 1 as much where no body has more than 512 tokens, else up to about
 //! 400 KB. Calls share nothing, so threads may call at once.
 
 #![allow(unsafe_code)]
+
+use crate::ANSWER_NUMBERS;
+
+/// The numbers of an answer. The first two are number (0 accepted) and cursor. What the three behind them count is said at each
+/// function; after a refusal they are 0. The last two are type and size, 0 unless the number is 7;
+/// [`ReservedType::from_numbers`](crate::ReservedType::from_numbers) knows them.
+pub type Answer = [u64; ANSWER_NUMBERS];
 
 extern "C" {
     fn simmerotter_read_file(
@@ -43,7 +51,7 @@ extern "C" {
     );
 }
 
-/// Reads a whole file in a mode. The answer: number (0 accepted), cursor, definitions, statements, arguments.
+/// Reads a whole file in a mode. The answer: number, cursor, definitions, statements, arguments, type, size.
 pub fn read_file(
     mode: u32,
     text: &[u8],
@@ -52,8 +60,8 @@ pub fn read_file(
     definitions: &mut [u32],
     statements: &mut [u32],
     arguments: &mut [u32],
-) -> [u64; 5] {
-    let mut answer = [0; 5];
+) -> Answer {
+    let mut answer = [0; ANSWER_NUMBERS];
     // A slice's pointer is aligned and never null, of an empty one too; its length is the one that goes with it; and the
     // borrow checker keeps the lent lists apart from each other and from what is read. That is all the archive asks.
     unsafe {
@@ -77,8 +85,8 @@ pub fn read_file(
     answer
 }
 
-/// Reads the body whose opening brace is at place `start` in a mode, and measures it in an edition. The answer: number
-/// (0 accepted), cursor, statements, arguments, plain length ([`crate::NONE`] if the body has none).
+/// Reads the body whose opening brace is at place `start` in a mode, and measures it in an edition. The answer: number, cursor,
+/// statements, arguments, plain length ([`crate::NONE`] if the body has none), type, size.
 // The archive's function takes so many.
 #[allow(clippy::too_many_arguments)]
 pub fn read_body(
@@ -90,8 +98,8 @@ pub fn read_body(
     kept: &mut [u32],
     statements: &mut [u32],
     arguments: &mut [u32],
-) -> [u64; 5] {
-    let mut answer = [0; 5];
+) -> Answer {
+    let mut answer = [0; ANSWER_NUMBERS];
     // As in `read_file`.
     unsafe {
         simmerotter_read_body(

@@ -1,5 +1,7 @@
 //! Why input is refused.
 
+use crate::raw::Answer;
+use crate::reserved::ReservedType;
 use std::fmt;
 
 /// The reason of a refusal, with the numbers of the archive.
@@ -17,7 +19,7 @@ pub enum Refusal {
     InvalidTokenInMacroBody,
     /// 6. A token that can't stand in a label's body.
     InvalidTokenInLabelDefinition,
-    /// 7. A type's name in the place of an argument's name.
+    /// 7. A type's name in the place of an argument's name; [`Refused::reserved_type`] says which type's.
     InvalidTypeAsArgumentName,
     /// 8. A token that can't stand in a list of arguments.
     InvalidArgs,
@@ -219,31 +221,43 @@ impl fmt::Display for Refusal {
     }
 }
 
-/// A refusal and its cursor.
+/// A refusal, its cursor, and for a type's name that type.
 #[derive(Clone, Copy, Debug, PartialEq, Eq, Hash)]
 pub struct Refused {
     /// Why.
     pub refusal: Refusal,
     /// Where, or how many; [`Refusal::cursor`] says which.
     pub cursor: usize,
+    /// The type whose name stands at the cursor, after [`Refusal::InvalidTypeAsArgumentName`]. Nothing after every other refusal,
+    /// and where a token of the kind [`PrimitiveType`](crate::Kind::PrimitiveType) has a text that is no type's name.
+    pub reserved_type: Option<ReservedType>,
 }
 
 impl Refused {
-    /// The refusal of an answer's first two numbers; nothing if the answer is 0, accepted.
-    pub fn from_answer(number: u64, cursor: u64) -> Option<Refused> {
+    /// The refusal of an answer of the archive; nothing if its number is 0, accepted.
+    pub fn from_answer(answer: Answer) -> Option<Refused> {
+        let [number, cursor, .., type_number, size] = answer;
         if number == 0 {
             return None;
         }
         let number = u32::try_from(number).unwrap_or(u32::MAX);
         let refusal = Refusal::from_number(number).unwrap_or(Refusal::Unknown(number));
-        Some(Refused { refusal, cursor: usize::try_from(cursor).unwrap_or(usize::MAX) })
+        let cursor = usize::try_from(cursor).unwrap_or(usize::MAX);
+        Some(Refused { refusal, cursor, reserved_type: ReservedType::from_numbers(type_number, size) })
+    }
+
+    /// What was wrong, with the type where there is one. The text is not known here: `uint` is a name of the type uint256 too.
+    fn message(&self) -> String {
+        match self.reserved_type {
+            Some(found) => format!("a name of the type {} ({}) can't be an argument's name", found, found.in_words()),
+            None => self.refusal.message().to_string(),
+        }
     }
 }
 
 impl fmt::Display for Refused {
     fn fmt(&self, f: &mut fmt::Formatter<'_>) -> fmt::Result {
-        let (message, name, number) = (self.refusal.message(), self.refusal.name(), self.refusal.number());
-        write!(f, "{} ({}, {})", message, name, number)?;
+        write!(f, "{} ({}, {})", self.message(), self.refusal.name(), self.refusal.number())?;
         match self.refusal.cursor() {
             Cursor::Nothing => Ok(()),
             counted => write!(f, " at {} {}", counted, self.cursor),

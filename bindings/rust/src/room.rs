@@ -3,7 +3,7 @@
 use crate::body::Body;
 use crate::file::File;
 use crate::options::Options;
-use crate::raw;
+use crate::raw::{self, Answer};
 use crate::reading::{Reading, Tables};
 use crate::refusal::{Refusal, Refused};
 use crate::token::{kept_count, TokenAt};
@@ -52,8 +52,8 @@ impl Room {
     pub fn read_file<'a>(&'a mut self, text: &'a [u8], tokens: &'a [u32]) -> Result<File<'a>, Refused> {
         let options = self.options;
         let answer = self.tables.until_room(tokens, |tables, enough| tables.call_file(options, text, tokens, enough));
-        let [number, cursor, definitions, statements, arguments] = answer;
-        let end = self.tables.settle(tokens, number, cursor, [definitions, statements, arguments])?;
+        let [_, _, definitions, statements, arguments, _, _] = answer;
+        let end = self.tables.settle(tokens, answer, [definitions, statements, arguments])?;
         Ok(File { reading: Reading { text, tokens, tables: &self.tables }, end })
     }
 
@@ -61,8 +61,8 @@ impl Room {
     pub fn read_body<'a>(&'a mut self, text: &'a [u8], tokens: &'a [u32], start: usize) -> Result<Body<'a>, Refused> {
         let options = self.options;
         let answer = self.tables.until_room(tokens, |tables, enough| tables.call_body(options, text, tokens, start, enough));
-        let [number, cursor, statements, arguments, length] = answer;
-        let end = self.tables.settle(tokens, number, cursor, [0, statements, arguments])?;
+        let [_, _, statements, arguments, length, _, _] = answer;
+        let end = self.tables.settle(tokens, answer, [0, statements, arguments])?;
         let plain_length = Some(length).filter(|length| *length != u64::from(NONE));
         Ok(Body { reading: Reading { text, tokens, tables: &self.tables }, end, edition: options.edition, plain_length })
     }
@@ -83,7 +83,7 @@ impl Tables {
     /// Calls until no table is too small. A first call takes what is there and a modest size; each answer that asks for more
     /// room gets it. There are three tables and an answer names the whole need of one, so three times suffice; the last
     /// call lends enough for any list, whatever was answered before.
-    fn until_room(&mut self, tokens: &[u32], call: impl Fn(&mut Tables, Enough) -> [u64; 5]) -> [u64; 5] {
+    fn until_room(&mut self, tokens: &[u32], call: impl Fn(&mut Tables, Enough) -> Answer) -> Answer {
         let enough = Enough::for_tokens(tokens);
         self.make_modest(enough);
         for _ in 0..3 {
@@ -113,9 +113,8 @@ impl Tables {
     }
 
     /// If the answer says that a table is too small, room for what it needs. Whether it does.
-    fn make_needed(&mut self, answer: [u64; 5], enough: Enough) -> bool {
-        let [number, cursor, ..] = answer;
-        let refused = match Refused::from_answer(number, cursor) {
+    fn make_needed(&mut self, answer: Answer, enough: Enough) -> bool {
+        let refused = match Refused::from_answer(answer) {
             Some(refused) => refused,
             None => return false,
         };
@@ -130,7 +129,7 @@ impl Tables {
     }
 
     /// A table that has grown for a large list is lent to a small one only as far as that can need: a call clears all it gets.
-    fn call_file(&mut self, options: Options, text: &[u8], tokens: &[u32], enough: Enough) -> [u64; 5] {
+    fn call_file(&mut self, options: Options, text: &[u8], tokens: &[u32], enough: Enough) -> Answer {
         raw::read_file(
             options.mode.number(),
             text,
@@ -142,7 +141,7 @@ impl Tables {
         )
     }
 
-    fn call_body(&mut self, options: Options, text: &[u8], tokens: &[u32], start: usize, enough: Enough) -> [u64; 5] {
+    fn call_body(&mut self, options: Options, text: &[u8], tokens: &[u32], start: usize, enough: Enough) -> Answer {
         raw::read_body(
             options.mode.number(),
             options.edition.number(),
@@ -156,14 +155,15 @@ impl Tables {
     }
 
     /// Makes what a call has left readable: the kept list where it was written, the records where it accepted.
-    fn settle(&mut self, tokens: &[u32], number: u64, cursor: u64, counts: [u64; 3]) -> Result<usize, Refused> {
-        let refused = Refused::from_answer(number, cursor);
+    fn settle(&mut self, tokens: &[u32], answer: Answer, counts: [u64; 3]) -> Result<usize, Refused> {
+        let refused = Refused::from_answer(answer);
         if refused.map_or(true, |refused| wrote_kept(refused.refusal)) {
             self.kept.hold(kept_count(tokens));
         }
         if let Some(refused) = refused {
             return Err(refused);
         }
+        let [_, cursor, ..] = answer;
         let [definitions, statements, arguments] = counts;
         self.definitions.hold(to_size(definitions));
         self.statements.hold(to_size(statements));
@@ -218,7 +218,7 @@ mod tests {
     fn a_list_beyond_the_limit_takes_no_room() {
         let mut room = Room::new();
         let refused = room.read_file(b"", &opcodes(MAX_TOKENS + 1)).unwrap_err();
-        assert_eq!(refused, Refused { refusal: Refusal::NotWellFormed, cursor: 0 });
+        assert_eq!(refused, Refused { refusal: Refusal::NotWellFormed, cursor: 0, reserved_type: None });
         assert_eq!(room_in(&room.tables), [0; 4]);
         assert!(room.read_file(b"", &opcodes(MAX_TOKENS)).is_err());
         assert_eq!(room_in(&room.tables), [65_536, 4_112, 32_784, 16_400]);
@@ -252,10 +252,10 @@ mod tests {
             let calls = std::cell::Cell::new(0);
             let always = |_: &mut Tables, _: Enough| {
                 calls.set(calls.get() + 1);
-                [number, u64::MAX, 0, 0, 0]
+                [number, u64::MAX, 0, 0, 0, 0, 0]
             };
             let mut tables = Tables::new();
-            assert_eq!(tables.until_room(&opcodes(100), always), [number, u64::MAX, 0, 0, 0]);
+            assert_eq!(tables.until_room(&opcodes(100), always), [number, u64::MAX, 0, 0, 0, 0, 0]);
             assert_eq!(calls.get(), 4);
             assert_eq!(room_in(&tables), [100, 50, 100, 100]);
         }
@@ -264,7 +264,7 @@ mod tests {
     #[test]
     fn an_unknown_number_is_a_refusal() {
         let mut tables = Tables::new();
-        let refused = tables.settle(&opcodes(1), 37, 7, [0; 3]).unwrap_err();
+        let refused = tables.settle(&opcodes(1), [37, 7, 0, 0, 0, 0, 0], [0; 3]).unwrap_err();
         assert_eq!((refused.refusal, refused.refusal.number(), refused.cursor), (Refusal::Unknown(37), 37, 7));
         assert!(tables.kept.words().is_empty());
     }
@@ -275,8 +275,8 @@ mod tests {
         for (number, refusal) in [(36, Refusal::UnknownMode), (38, Refusal::UnknownEdition)] {
             let mut tables = Tables::new();
             tables.kept.grow(1);
-            let refused = tables.settle(&opcodes(1), number, 0, [0; 3]).unwrap_err();
-            assert_eq!(refused, Refused { refusal, cursor: 0 });
+            let refused = tables.settle(&opcodes(1), [number, 0, 0, 0, 0, 0, 0], [0; 3]).unwrap_err();
+            assert_eq!(refused, Refused { refusal, cursor: 0, reserved_type: None });
             assert!(tables.kept.words().is_empty());
         }
     }

@@ -2,7 +2,8 @@
 
 mod common;
 
-use common::{cases, Chance, Setting, Source};
+use common::{cases, refusal, Chance, Setting, Source};
+use simmerotter::raw::Answer;
 use simmerotter::{Body, Edition, Mode, Options, Refused, Room, Statement, StatementKind, NONE};
 
 fn room_of(edition: Edition) -> Room {
@@ -102,7 +103,7 @@ fn a_file_is_read_alike_by_rooms_of_both() {
 
 #[test]
 fn an_unknown_edition_has_a_cursor_that_counts_nothing() {
-    let refused = Refused::from_answer(38, 0).expect("a refusal");
+    let refused = Refused::from_answer(refusal(38, 0)).expect("a refusal");
     assert_eq!(refused.to_string(), "no edition has the number that was given (UnknownEdition, 38)");
 }
 
@@ -163,6 +164,12 @@ impl Tally {
     }
 }
 
+/// A body's answer with 0 for its plain length.
+fn without_length(mut answer: Answer) -> Answer {
+    answer[4] = 0;
+    answer
+}
+
 /// The answers and lists of both editions differ in the length alone, and by as much as there are such zeros.
 #[test]
 fn on_the_sample_lengths_differ_by_the_zeros_alone() {
@@ -170,7 +177,7 @@ fn on_the_sample_lengths_differ_by_the_zeros_alone() {
     for case in cases().iter().filter(|case| case.is_body) {
         for mode in Mode::ALL {
             let [first, second] = Edition::ALL.map(|edition| case.call_with_enough(Setting { mode, edition }));
-            assert_eq!((&first.0[..4], &first.1), (&second.0[..4], &second.1), "line {}", case.line);
+            assert_eq!((without_length(first.0), &first.1), (without_length(second.0), &second.1), "line {}", case.line);
             tally.compare(mode, &case.text, &case.tokens, case.start, [first.0[4], second.0[4]]);
         }
     }

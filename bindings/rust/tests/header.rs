@@ -1,6 +1,11 @@
 //! The C header and the crate give the same names the same numbers.
 
-use simmerotter::{ArgumentForm, DefinitionKind, Edition, FunctionType, Kind, Location, Mode, Refusal, StatementKind};
+mod common;
+
+use common::{Lists, Source};
+use simmerotter::{
+    ArgumentForm, DefinitionKind, Edition, FunctionType, Kind, Location, Mode, Refusal, ReservedType, StatementKind,
+};
 use std::collections::HashMap;
 use std::fmt::Debug;
 use std::fs;
@@ -58,6 +63,29 @@ fn modes_editions_kinds_and_refusals_are_the_same() {
 }
 
 #[test]
+fn types_and_their_numbers_in_an_answer_are_the_same() {
+    let constants = constants();
+    assert_eq!(constants.keys().filter(|name| name.starts_with("TYPE_")).count(), 8);
+    assert_eq!(constants["TYPE_NONE"], 0);
+    let index = |name: &str| constants[name] as usize;
+    for (text, name, found) in [
+        ("address", "TYPE_ADDRESS", ReservedType::Address),
+        ("bool", "TYPE_BOOL", ReservedType::Bool),
+        ("string", "TYPE_STRING", ReservedType::String),
+        ("bytes", "TYPE_BYTES", ReservedType::Bytes),
+        ("uint16", "TYPE_UINT", ReservedType::Uint(16)),
+        ("int24", "TYPE_INT", ReservedType::Int(24)),
+        ("bytes5", "TYPE_BYTES_N", ReservedType::BytesN(5)),
+    ] {
+        let source = Source::of_lines(&[&format!("{{ @f ( a {} ) }}", text)]);
+        let answer = Lists::enough(&source.tokens).read_body(0, 1, &source.text, &source.tokens, 0);
+        assert_eq!(answer[index("TYPE")], u64::from(constants[name]), "{}", name);
+        assert_eq!(answer[index("SIZE")], u64::from(found.size()), "{}", name);
+        assert_eq!(found.number(), constants[name], "{}", name);
+    }
+}
+
+#[test]
 fn what_records_hold_is_the_same() {
     let definitions = (1..20).filter_map(DefinitionKind::from_number);
     assert_eq!(assert_same("DEFINITION_", definitions, |kind| kind.number()), 11);
@@ -81,6 +109,7 @@ fn sizes_are_the_same() {
         ("DEFINITION_WORDS", simmerotter::DEFINITION_WORDS),
         ("STATEMENT_WORDS", simmerotter::STATEMENT_WORDS),
         ("ARGUMENT_WORDS", simmerotter::ARGUMENT_WORDS),
+        ("ANSWER_NUMBERS", simmerotter::ANSWER_NUMBERS),
         ("NONE", simmerotter::NONE as usize),
     ] {
         assert_eq!(constants.get(name).map(|value| *value as usize), Some(value), "{}", name);

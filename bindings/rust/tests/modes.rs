@@ -2,7 +2,7 @@
 
 mod common;
 
-use common::{cases, room_in, Setting, Source};
+use common::{cases, refusal, room_in, Setting, Source};
 use simmerotter::{Edition, Mode, Options, Refusal, Refused, Room, StatementKind};
 
 /// The end of a body, or its refusal's number and cursor.
@@ -123,7 +123,7 @@ fn rooms_read_leniently_unless_they_are_told() {
 
 #[test]
 fn an_unknown_mode_has_a_cursor_that_counts_nothing() {
-    let refused = Refused::from_answer(36, 0).expect("a refusal");
+    let refused = Refused::from_answer(refusal(36, 0)).expect("a refusal");
     assert_eq!(refused.to_string(), "no mode has the number that was given (UnknownMode, 36)");
 }
 

@@ -2,7 +2,8 @@
 
 mod common;
 
-use common::{cases, room_in, Case, Chance, Lists, Setting, Source, SETTINGS};
+use common::{answer_of, cases, refusal, room_in, Case, Chance, Lists, Setting, Source, SETTINGS};
+use simmerotter::raw::Answer;
 use simmerotter::{
     Argument, Body, Definition, DefinitionKind, File, Kind, Mode, Refusal, Refused, Room, Statement, TokenAt, MAX_TEXT,
     MAX_TOKENS, NONE,
@@ -141,7 +142,7 @@ impl Tally {
             (0 | 1, _) => 38,
             _ => 36,
         };
-        assert_eq!((answer, lists), ([number, 0, 0, 0, 0], Lists::enough(tokens)));
+        assert_eq!((answer, lists), (refusal(number, 0), Lists::enough(tokens)));
         self.turned_away += 1;
     }
 
@@ -150,7 +151,7 @@ impl Tally {
         let answer = lists.read_file(setting.mode.number(), text, tokens);
         match room.read_file(text, tokens) {
             Ok(file) => {
-                assert_eq!((answer[0], answer[1]), (0, file.end() as u64));
+                assert_eq!((answer[0], answer[1], &answer[5..]), (0, file.end() as u64, &[0, 0][..]));
                 assert_eq!(file.definition_words(), &lists.definitions[..file.definitions().count() * 12]);
                 assert_eq!(file.definitions().count() as u64, answer[2]);
                 assert_eq!(file.all_statements().count() as u64, answer[3]);
@@ -169,7 +170,7 @@ impl Tally {
         let answer = lists.read_body(mode, edition, text, tokens, start);
         match room.read_body(text, tokens, start) {
             Ok(body) => {
-                assert_eq!((answer[0], answer[1]), (0, body.end() as u64));
+                assert_eq!((answer[0], answer[1], &answer[5..]), (0, body.end() as u64, &[0, 0][..]));
                 assert_eq!((body.edition(), body.plain_length().unwrap_or(u64::from(NONE))), (setting.edition, answer[4]));
                 assert_eq!(body.all_statements().count() as u64, answer[2]);
                 assert_eq!(body.arguments().count() as u64, answer[3]);
@@ -186,13 +187,12 @@ impl Tally {
         self.accepted += 1;
     }
 
-    fn refuse(&mut self, refused: Refused, answer: [u64; 5]) {
-        let number = u64::from(refused.refusal.number());
-        assert_eq!([number, refused.cursor as u64, 0, 0, 0], answer);
+    fn refuse(&mut self, refused: Refused, answer: Answer) {
+        assert_eq!(answer_of(refused), answer);
         assert!(!refused.to_string().is_empty());
         self.calls += 1;
         self.refused += 1;
-        self.refused_by_grammar += usize::from(number < 30);
+        self.refused_by_grammar += usize::from(answer[0] < 30);
     }
 
     fn walk_room(&mut self, room: &Room, tokens: &[u32]) {
@@ -268,7 +268,7 @@ fn walk_argument(argument: Argument<'_>) -> usize {
 
 /// Read as a file and as a body, in both modes, it gets this refusal.
 fn assert_refused(text: &[u8], tokens: &[u32], refusal: Refusal, cursor: usize) {
-    let refused = Refused { refusal, cursor };
+    let refused = Refused { refusal, cursor, reserved_type: None };
     for mut room in Mode::ALL.map(room_in) {
         assert_eq!(room.read_file(text, tokens).unwrap_err(), refused);
         assert_eq!(room.read_body(text, tokens, 0).unwrap_err(), refused);
@@ -296,7 +296,7 @@ fn starts_beyond_the_kept_tokens_are_refused() {
     let mut room = Room::new();
     for start in [3, 4, 1 << 31, 1 << 32, (1 << 32) + 1, usize::MAX - 1, usize::MAX] {
         let refused = room.read_body(&source.text, &source.tokens, start).unwrap_err();
-        assert_eq!(refused, Refused { refusal: Refusal::StartOutside, cursor: start });
+        assert_eq!(refused, Refused { refusal: Refusal::StartOutside, cursor: start, reserved_type: None });
         assert!(room.kept().is_empty());
     }
     assert_eq!(room.read_body(&source.text, &source.tokens, 0).map(|body| body.end()), Ok(2));

@@ -3,7 +3,8 @@
 
 mod common;
 
-use common::{cases, Case, Setting, SETTINGS};
+use common::{answer_of, cases, Case, Setting, SETTINGS};
+use simmerotter::raw::Answer;
 use simmerotter::{Body, Definition, Edition, File, Mode, Refused, Room, Statement};
 
 /// Of cases in all, of strict ones, of bodies in the second edition: with fewer these tests would show less than they say.
@@ -41,7 +42,7 @@ fn a_room_reads_what_the_cases_say() {
                 second += usize::from(setting.edition == Edition::Second);
             }
             // A room has no such mode or edition to give; that the archive answers so is for the test above.
-            None => assert!(matches!(case.answer, [36 | 38, 0, 0, 0, 0]), "line {}", case.line),
+            None => assert!(matches!(case.answer, [36 | 38, 0, 0, 0, 0, 0, 0]), "line {}", case.line),
         }
         match case.answer[0] {
             32..=35 => grown += 1,
@@ -77,7 +78,7 @@ fn compare_room(room: &mut Room, setting: Setting, case: &Case) {
 }
 
 /// The same records and answer with the case's tables and with larger ones.
-fn compare_own(case: &Case, answer: [u64; 5], lists: &common::Lists) {
+fn compare_own(case: &Case, answer: Answer, lists: &common::Lists) {
     assert_eq!(answer, case.answer, "line {}", case.line);
     let [definitions, statements, arguments] = counts(case, answer);
     assert_eq!(lists.definitions[..12 * definitions], case.wanted.definitions[..12 * definitions]);
@@ -85,7 +86,7 @@ fn compare_own(case: &Case, answer: [u64; 5], lists: &common::Lists) {
     assert_eq!(lists.arguments[..7 * arguments], case.wanted.arguments[..7 * arguments]);
 }
 
-fn counts(case: &Case, answer: [u64; 5]) -> [usize; 3] {
+fn counts(case: &Case, answer: Answer) -> [usize; 3] {
     let counts = match case.is_body {
         true => [0, answer[2], answer[3]],
         false => [answer[2], answer[3], answer[4]],
@@ -93,7 +94,7 @@ fn counts(case: &Case, answer: [u64; 5]) -> [usize; 3] {
     counts.map(|count| usize::try_from(count).expect("a count"))
 }
 
-fn compare_file(room: &mut Room, case: &Case, answer: [u64; 5], lists: &common::Lists) {
+fn compare_file(room: &mut Room, case: &Case, answer: Answer, lists: &common::Lists) {
     let [definitions, statements, arguments] = counts(case, answer);
     match room.read_file(&case.text, &case.tokens) {
         Ok(file) => {
@@ -107,7 +108,7 @@ fn compare_file(room: &mut Room, case: &Case, answer: [u64; 5], lists: &common::
     }
 }
 
-fn compare_body(room: &mut Room, case: &Case, answer: [u64; 5], lists: &common::Lists) {
+fn compare_body(room: &mut Room, case: &Case, answer: Answer, lists: &common::Lists) {
     let [_, statements, arguments] = counts(case, answer);
     match room.read_body(&case.text, &case.tokens, case.start) {
         Ok(body) => {
@@ -121,12 +122,11 @@ fn compare_body(room: &mut Room, case: &Case, answer: [u64; 5], lists: &common::
     }
 }
 
-fn compare_refused(refused: Refused, case: &Case, answer: [u64; 5]) {
-    let number = u64::from(refused.refusal.number());
-    assert_eq!([number, refused.cursor as u64, 0, 0, 0], answer, "line {}", case.line);
+fn compare_refused(refused: Refused, case: &Case, answer: Answer) {
+    assert_eq!(answer_of(refused), answer, "line {}", case.line);
 }
 
-fn compare_kept(room: &Room, case: &Case, answer: [u64; 5], lists: &common::Lists) {
+fn compare_kept(room: &Room, case: &Case, answer: Answer, lists: &common::Lists) {
     let written = lists.kept.iter().take_while(|word| **word != common::FILL).count();
     assert_eq!(room.kept(), &lists.kept[..written], "line {}", case.line);
     assert_eq!(written == 0, matches!(answer[0], 30 | 31), "line {}", case.line);

@@ -3,8 +3,9 @@
 
 mod common;
 
-use common::Source;
-use simmerotter::{raw, Edition, Mode};
+use common::{refusal, Source};
+use simmerotter::raw::{self, Answer};
+use simmerotter::{Edition, Mode, ANSWER_NUMBERS};
 
 const GUARD: u32 = 0xdead_beef;
 const GUARDS: usize = 64;
@@ -52,7 +53,7 @@ impl Guarded {
 
 /// The four lent lists of a call and its answer.
 struct Call {
-    answer: [u64; 5],
+    answer: Answer,
     kept: Guarded,
     definitions: Guarded,
     statements: Guarded,
@@ -63,7 +64,7 @@ impl Call {
     fn new(lengths: [usize; 4]) -> Call {
         let [kept, definitions, statements, arguments] = lengths;
         Call {
-            answer: [99; 5],
+            answer: [99; ANSWER_NUMBERS],
             kept: Guarded::new(kept, FILLS[0]),
             definitions: Guarded::new(definitions, FILLS[1]),
             statements: Guarded::new(statements, FILLS[2]),
@@ -191,7 +192,7 @@ fn a_file_is_written_into_its_own_lists() {
     for extra in [[0; 4], [1, 2, 3, 4], [9, 40, 20, 30]] {
         let lengths = [EXACT[0] + extra[0], EXACT[1] + extra[1], EXACT[2] + extra[2], EXACT[3] + extra[3]];
         let call = Call::file(&source.text, &source.tokens, lengths);
-        assert_eq!(call.answer, [0, 36, 3, 4, 5]);
+        assert_eq!(call.answer, [0, 36, 3, 4, 5, 0, 0]);
         assert_starts_and_ends(&call.kept, &KEPT, FILLS[0]);
         assert_starts_and_ends(&call.definitions, &DEFINITIONS, 0);
         assert_starts_and_ends(&call.statements, &STATEMENTS, 0);
@@ -205,7 +206,7 @@ fn a_body_is_written_into_its_own_lists() {
     for extra in [[0; 3], [1, 2, 3], [9, 20, 30]] {
         let lengths = [BODY_EXACT[0] + extra[0], BODY_EXACT[1], BODY_EXACT[2] + extra[1], BODY_EXACT[3] + extra[2]];
         let call = Call::body(&source.text, &source.tokens, BODY_START, lengths);
-        assert_eq!(call.answer, [0, 36, 4, 2, u64::from(NONE)]);
+        assert_eq!(call.answer, [0, 36, 4, 2, u64::from(NONE), 0, 0]);
         assert_starts_and_ends(&call.kept, &KEPT, FILLS[0]);
         // As in the file, but for three arguments that come before the macro's.
         let mut statements = STATEMENTS;
@@ -220,13 +221,13 @@ fn a_file_names_the_list_that_is_too_short() {
     let source = source();
     for missing in [1, EXACT[0]] {
         let call = Call::file(&source.text, &source.tokens, with(EXACT, 0, EXACT[0] - missing));
-        assert_eq!(call.answer, [35, 37, 0, 0, 0]);
+        assert_eq!(call.answer, refusal(35, 37));
         call.assert_untouched();
     }
     for (list, number, need) in [(1, 32, 3), (2, 33, 4), (3, 34, 5)] {
         for missing in [1, EXACT[list]] {
             let call = Call::file(&source.text, &source.tokens, with(EXACT, list, EXACT[list] - missing));
-            assert_eq!(call.answer, [number, need, 0, 0, 0]);
+            assert_eq!(call.answer, refusal(number, need));
             call.assert_cleared(KEPT_COUNT);
             assert!(call.definitions.is_zero());
         }
@@ -238,11 +239,11 @@ fn a_body_names_the_list_that_is_too_short() {
     let source = source();
     let read = |lengths| Call::body(&source.text, &source.tokens, BODY_START, lengths);
     let call = read(with(BODY_EXACT, 0, BODY_EXACT[0] - 1));
-    assert_eq!(call.answer, [35, 37, 0, 0, 0]);
+    assert_eq!(call.answer, refusal(35, 37));
     call.assert_untouched();
     for (list, number, need) in [(2, 33, 4), (3, 34, 2)] {
         let call = read(with(BODY_EXACT, list, BODY_EXACT[list] - 1));
-        assert_eq!(call.answer, [number, need, 0, 0, 0]);
+        assert_eq!(call.answer, refusal(number, need));
         call.assert_cleared(KEPT_COUNT);
     }
 }
@@ -265,7 +266,7 @@ fn text_and_token_list_are_told_apart_and_measured() {
         let file = Call::file(text, tokens, EXACT);
         let body = Call::body(text, tokens, BODY_START, BODY_EXACT);
         for call in [file, body] {
-            assert_eq!(call.answer, [30, cursor, 0, 0, 0]);
+            assert_eq!(call.answer, refusal(30, cursor));
             call.assert_untouched();
         }
     }
@@ -276,12 +277,12 @@ fn the_start_arrives_whole() {
     let source = source();
     for start in [KEPT_COUNT, KEPT_COUNT + 1, 1 << 31, 1 << 32, (1 << 32) + BODY_START, usize::MAX] {
         let call = Call::body(&source.text, &source.tokens, start, BODY_EXACT);
-        assert_eq!(call.answer, [31, start as u64, 0, 0, 0]);
+        assert_eq!(call.answer, refusal(31, start as u64));
         call.assert_untouched();
     }
     for start in (0..KEPT_COUNT).filter(|start| *start != BODY_START) {
         let call = Call::body(&source.text, &source.tokens, start, BODY_EXACT);
-        assert_eq!(call.answer, [1, start as u64, 0, 0, 0]);
+        assert_eq!(call.answer, refusal(1, start as u64));
         call.assert_cleared(KEPT_COUNT);
     }
 }
@@ -291,15 +292,15 @@ fn the_mode_arrives_whole() {
     let source = source();
     for mode in Mode::ALL {
         let file = Call::file_in(mode.number(), &source.text, &source.tokens, EXACT);
-        assert_eq!(file.answer, [0, 36, 3, 4, 5]);
+        assert_eq!(file.answer, [0, 36, 3, 4, 5, 0, 0]);
         let body = Call::body_in(mode.number(), FIRST, &source.text, &source.tokens, BODY_START, BODY_EXACT);
-        assert_eq!(body.answer, [0, 36, 4, 2, u64::from(NONE)]);
+        assert_eq!(body.answer, [0, 36, 4, 2, u64::from(NONE), 0, 0]);
     }
     for mode in [2, 3, 0x100, 0x101, 0x1_0000, 0x8000_0000, u32::MAX] {
         let file = Call::file_in(mode, &source.text, &source.tokens, EXACT);
         let body = Call::body_in(mode, FIRST, &source.text, &source.tokens, BODY_START, BODY_EXACT);
         for call in [file, body] {
-            assert_eq!(call.answer, [36, 0, 0, 0, 0]);
+            assert_eq!(call.answer, refusal(36, 0));
             call.assert_untouched();
         }
     }
@@ -313,11 +314,11 @@ fn the_edition_arrives_whole() {
     let zeros = Source::of_lines(&["{ 0x00 ~a : 0x0 op60 0x00 }"]);
     let read = |edition| Call::body_in(Mode::Lenient.number(), edition, &zeros.text, &zeros.tokens, 0, [9, 17, 5 * 8, 5]);
     for (edition, length) in Edition::ALL.into_iter().zip([7, 5]) {
-        assert_eq!(read(edition.number()).answer, [0, 8, 5, 0, length]);
+        assert_eq!(read(edition.number()).answer, [0, 8, 5, 0, length, 0, 0]);
     }
     for edition in UNKNOWN_EDITIONS {
         let call = read(edition);
-        assert_eq!(call.answer, [38, 0, 0, 0, 0]);
+        assert_eq!(call.answer, refusal(38, 0));
         call.assert_untouched();
     }
 }
@@ -330,8 +331,8 @@ fn an_unknown_mode_comes_before_every_other_refusal() {
     for tokens in [&source.tokens[..], &source.tokens[1..], &[]] {
         let file = Call::file_in(2, &source.text, tokens, [0; 4]);
         let body = |edition| Call::body_in(2, edition, &source.text, tokens, usize::MAX, [0; 4]).answer;
-        assert_eq!((file.answer, body(FIRST)), ([36, 0, 0, 0, 0], [36, 0, 0, 0, 0]));
-        assert_eq!(UNKNOWN_EDITIONS.map(body), [[36, 0, 0, 0, 0]; 9]);
+        assert_eq!((file.answer, body(FIRST)), (refusal(36, 0), refusal(36, 0)));
+        assert_eq!(UNKNOWN_EDITIONS.map(body), [refusal(36, 0); 9]);
     }
 }
 
@@ -342,8 +343,8 @@ fn an_unknown_edition_comes_before_every_refusal_but_that() {
     for (tokens, number, cursor) in [(&source.tokens[..], 35, 37), (&source.tokens[1..], 30, 0), (&[], 30, 0)] {
         for mode in Mode::ALL {
             let body = |edition| Call::body_in(mode.number(), edition, &source.text, tokens, usize::MAX, [0; 4]).answer;
-            assert_eq!(UNKNOWN_EDITIONS.map(body), [[38, 0, 0, 0, 0]; 9]);
-            assert_eq!(Edition::ALL.map(|edition| body(edition.number())), [[number, cursor, 0, 0, 0]; 2]);
+            assert_eq!(UNKNOWN_EDITIONS.map(body), [refusal(38, 0); 9]);
+            assert_eq!(Edition::ALL.map(|edition| body(edition.number())), [refusal(number, cursor); 2]);
         }
     }
 }
@@ -353,16 +354,35 @@ fn a_repeated_label_is_refused_behind_the_kept_list_and_before_the_tables() {
     let strict = Mode::Strict.number();
     let body = Source::of_lines(&["{ ~a : ~b : ~a : }"]);
     let read = |lengths| Call::body_in(strict, FIRST, &body.text, &body.tokens, 0, lengths);
-    assert_eq!(read([8, 17, 24, 7]).answer, [35, 9, 0, 0, 0]);
+    assert_eq!(read([8, 17, 24, 7]).answer, refusal(35, 9));
     let file = Source::of_lines(&["#define macro M ( ) = { ~a : ~a : }"]);
     for tables in [[17, 25, 8], [0, 0, 0]] {
         let [definitions, statements, arguments] = tables;
         let call = read([9, definitions, statements, arguments]);
-        assert_eq!(call.answer, [22, 5, 0, 0, 0]);
+        assert_eq!(call.answer, refusal(22, 5));
         call.assert_cleared(9);
         let call = Call::file_in(strict, &file.text, &file.tokens, [14, definitions, statements, arguments]);
-        assert_eq!(call.answer, [22, 9, 0, 0, 0]);
+        assert_eq!(call.answer, refusal(22, 9));
         call.assert_cleared(13);
+        assert!(call.definitions.is_zero());
+    }
+}
+
+/// The type is read through the kept list, so it is told where that was written, whatever the tables are.
+#[test]
+fn a_type_is_told_behind_the_kept_list_and_before_the_tables() {
+    let body = Source::of_lines(&["{ @f ( a int8 ) }"]);
+    let read = |lengths| Call::body(&body.text, &body.tokens, 0, lengths);
+    assert_eq!(read([7, 17, 24, 7]).answer, refusal(35, 8));
+    let file = Source::of_lines(&["#define error E ( %bool bytes32 )"]);
+    for tables in [[17, 25, 8], [0, 0, 0]] {
+        let [definitions, statements, arguments] = tables;
+        let call = read([8, definitions, statements, arguments]);
+        assert_eq!(call.answer, [7, 4, 0, 0, 0, 6, 8]);
+        call.assert_cleared(8);
+        let call = Call::file(&file.text, &file.tokens, [9, definitions, statements, arguments]);
+        assert_eq!(call.answer, [7, 5, 0, 0, 0, 7, 32]);
+        call.assert_cleared(8);
         assert!(call.definitions.is_zero());
     }
 }

@@ -8,8 +8,8 @@ use crate::line::Line;
 use crate::line::REFUSED;
 use crate::output::OUT_ROOM;
 use crate::output::put_byte;
-use crate::output::put_five;
 use crate::output::put_list;
+use crate::output::put_numbers;
 use crate::output::say;
 use crate::room::ARGUMENTS_ROOM;
 use crate::room::DEFINITIONS_ROOM;
@@ -19,6 +19,7 @@ use crate::room::STATEMENTS_ROOM;
 use crate::room::TEXT_ROOM;
 use simmerotter::simmerotter_read_body;
 use simmerotter::simmerotter_read_file;
+use tokens::number::ANSWER_NUMBERS;
 
 // The line followed the rules to its end; a file is read from 0, and a body call lends no definitions.
 fn is_case(line: Line, sizes: Sizes) -> bool {
@@ -50,7 +51,7 @@ fn ask(
     definitions: &mut [u32],
     statements: &mut [u32],
     arguments: &mut [u32],
-    answer: &mut [u64; 5],
+    answer: &mut [u64; ANSWER_NUMBERS],
 ) {
     let text = first_bytes(text, line.bytes);
     let tokens = tokens_of(numbers, line.numbers);
@@ -84,13 +85,13 @@ fn ask(
 fn show(
     out: &mut [u8; OUT_ROOM],
     sizes: Sizes,
-    answer: [u64; 5],
+    answer: [u64; ANSWER_NUMBERS],
     kept: &[u32],
     definitions: &[u32],
     statements: &[u32],
     arguments: &[u32],
 ) {
-    let first = put_five(out, 0, answer);
+    let first = put_numbers(out, 0, answer);
     let second = put_list(out, first, kept, sizes.kept);
     let third = put_list(out, second, definitions, sizes.definitions);
     let fourth = put_list(out, third, statements, sizes.statements);
@@ -119,7 +120,7 @@ pub fn answer_line(
         say(b"X_TooLarge\n");
         return;
     }
-    let mut answer = [0u64; 5];
+    let mut answer = [0u64; ANSWER_NUMBERS];
     ask(
         line,
         sizes,

@@ -1,6 +1,7 @@
 // An answer's bytes, through a buffer that is written out where it is full. `filled` is how many of its bytes wait; each put answers how many do then.
 use crate::room::least;
 use libc::STDOUT_FILENO;
+use tokens::number::ANSWER_NUMBERS;
 
 pub const OUT_ROOM: usize = 4096;
 
@@ -42,13 +43,19 @@ fn put_next(out: &mut [u8; OUT_ROOM], filled: usize, mark: u8, n: u64) -> usize 
     put_number(out, at, n)
 }
 
-// The five numbers of an answer, with one space between them.
-pub fn put_five(out: &mut [u8; OUT_ROOM], filled: usize, answer: [u64; 5]) -> usize {
-    let first = put_number(out, filled, answer[0]);
-    let second = put_next(out, first, b' ', answer[1]);
-    let third = put_next(out, second, b' ', answer[2]);
-    let fourth = put_next(out, third, b' ', answer[3]);
-    put_next(out, fourth, b' ', answer[4])
+// The numbers of an answer, with one space between them.
+pub fn put_numbers(
+    out: &mut [u8; OUT_ROOM],
+    filled: usize,
+    answer: [u64; ANSWER_NUMBERS],
+) -> usize {
+    let mut at = put_number(out, filled, answer[0]);
+    let mut i = 1;
+    while i < ANSWER_NUMBERS {
+        at = put_next(out, at, b' ', answer[i]);
+        i += 1;
+    }
+    at
 }
 
 // A function of its own, so that the cast leaves the loop nothing to prove.

@@ -4,14 +4,15 @@ use native.Mathlib.Omega.{arith}
 use mathlib.Core.Path.{_≡_, refl, sym, ap, _∙_}
 use mathlib.Core.Logic.{_↔_}
 use mathlib.Core.Bool.{Bool, true, false, cond}
-use mathlib.Core.List.{List, [], _∷_, map}
+use mathlib.Core.List.{List, [], map}
 use borrow.Author.Tests.{ltb-true, ltb-false, le-ltb}
 use lib.ListN.{length, getD, take}
 use lib.Dec.{ltb, eqb}
 use Rattle.tokens.specs.Number as number
 use Rattle.tokens.specs.Number.{definitionWidth, statementWidth, argumentWidth, labelType, macroDefinition, testDefinition, lenientMode, strictMode}
 use Rattle.tokens.specs.Kind.{Eof, Pound}
-use Rattle.tokens.specs.Token.{Token}
+use Rattle.tokens.specs.Token.{Token, tokenAt}
+use Rattle.tokens.specs.Name.{typeTold}
 use Rattle.tokens.specs.Kept.{keptOf, keptTokens}
 use Rattle.tokens.specs.WellFormed.{WellFormed}
 use Rattle.tokens.specs.Door.{door}
@@ -23,13 +24,13 @@ use Rattle.grammar.specs.FileReading.{Definition}
 use Rattle.grammar.specs.FileReader.{fileAt}
 use Rattle.grammar.specs.FileRecords.{definitionRecords, fileStatements, fileArguments, fileArgumentRecords, fileStatementCount}
 use Rattle.grammar.specs.FileFollows.{FollowsFile, RepeatedAt, Reached, FirstWrongFile, CursorAt}
-use Rattle.grammar.specs.Call.{ReadingNumber, refusal, fileNumbers, afterDoor, recordsOf, filled, heldAfter}
+use Rattle.grammar.specs.Call.{ReadingNumber, acceptance, refusalOf, refusal, refusalAt, fileNumbers, afterDoor, TellsType, recordsOf, filled, heldAfter}
 use Rattle.grammar.specs.Tables.{Stands, typeWord, firstWord, endWord, innerWord, Flat}
 use Rattle.grammar.specs.FileTables.{FileTable, definitionWord, StatementsOf}
 use Rattle.grammar.specs.Cases.{tokensOf}
 use Rattle.grammar.specs.FileCases.{FileOutcome, FileRow, fileOutcome, ended, fileRows, strictFiles}
-use Rattle.grammar.proofs.Lists.{all-map, all-mapped}
-use Rattle.grammar.proofs.Numbers.{file-ours, held-refused}
+use Rattle.grammar.proofs.Lists.{all-map, all-mapped, agree-at}
+use Rattle.grammar.proofs.Numbers.{file-ours, held-refused, tells-accepted, tells-none, tells-at}
 use Rattle.grammar.proofs.FileDemand.{file-exactly, file-cursor, file-repeated, file-pound, file-same-refusal}
 use Rattle.grammar.proofs.FileRecorded.{file-as-many, file-as-wide}
 use Rattle.grammar.proofs.Tabled.{stored-filled, walk-labels-all}
@@ -51,13 +52,13 @@ pub record Room (definitions statements arguments : List ℕ) (ds : List Definit
 
 -- ---- from the numbers back to the list
 
--- what the five numbers of a call say of the list and the tables. 32, 33 and 34 are given only to a file that is accepted otherwise, where the whole records of that
+-- what the numbers of a call say of the list and the tables. 32, 33 and 34 are given only to a file that is accepted otherwise, where the whole records of that
 -- table are fewer than needed
 pub data Says (mode : ℕ) (text words kept definitions statements arguments : List ℕ) : List ℕ → Type 0 where
   says-36 : isMode mode ≡ false → Says mode text words kept definitions statements arguments (refusal number.UnknownMode 0)
   says-30 : {at : ℕ} → isMode mode ≡ true → ¬ WellFormed text words → Says mode text words kept definitions statements arguments (refusal number.NotWellFormed at)
   says-35 : isMode mode ≡ true → WellFormed text words → length kept < length (keptOf words) → Says mode text words kept definitions statements arguments (refusal number.KeptTooShort (length (keptOf words)))
-  says-refused : {c q : ℕ} → Through (isMode mode ≡ true) text words 0 kept → ReadingNumber c → fileReading mode text words ≡ refused c q → Says mode text words kept definitions statements arguments (refusal c q)
+  says-refused : {c q : ℕ} → Through (isMode mode ≡ true) text words 0 kept → ReadingNumber c → fileReading mode text words ≡ refused c q → Says mode text words kept definitions statements arguments (refusalAt (keptTokens text words) c q)
   says-32 : (n : ℕ) (ds : List Definition)
       → Through (isMode mode ≡ true) text words 0 kept
       → IsFile mode text words n ds
@@ -80,12 +81,12 @@ pub data Says (mode : ℕ) (text words kept definitions statements arguments : L
       → Through (isMode mode ≡ true) text words 0 kept
       → IsFile mode text words n ds
       → Room definitions statements arguments ds
-      → Says mode text words kept definitions statements arguments (fileNumbers (read ds n))
+      → Says mode text words kept definitions statements arguments (fileNumbers (keptTokens text words) (read ds n))
 
 module _ (mode : ℕ) (text words kept definitions statements arguments : List ℕ) where
   -- behind the door
   reading-says : Through (isMode mode ≡ true) text words 0 kept → (x : Answer (List Definition)) → fileReading mode text words ≡ x
-      → Says mode text words kept definitions statements arguments (afterReading x (length definitions) (length statements) (length arguments))
+      → Says mode text words kept definitions statements arguments (afterReading (keptTokens text words) x (length definitions) (length statements) (length arguments))
   unfolding afterReading
   reading-says l (refused c q) e = says-refused l (file-ours (rulesOf mode) true (keptTokens text words) c q e) e
   reading-says l (read ds n) e =
@@ -100,7 +101,7 @@ module _ (mode : ℕ) (text words kept definitions statements arguments : List �
           → Says mode text words kept definitions statements arguments
           (cond b (refusal number.DefinitionsTooSmall (length ds))
           (cond d (refusal number.StatementsTooSmall (fileStatementCount ds))
-          (cond g (refusal number.ArgumentsTooSmall (length (fileArguments ds))) (fileNumbers (read ds n)))))
+          (cond g (refusal number.ArgumentsTooSmall (length (fileArguments ds))) (fileNumbers (keptTokens text words) (read ds n)))))
       go true eb d ed g eg = says-32 n ds l follows (ltb-true _ _ eb)
       go false eb true ed g eg = says-33 n ds l follows (ltb-false _ _ eb) (ltb-true _ _ ed)
       go false eb false ed true eg = says-34 n ds l follows (ltb-false _ _ eb) (ltb-false _ _ ed) (ltb-true _ _ eg)
@@ -108,7 +109,7 @@ module _ (mode : ℕ) (text words kept definitions statements arguments : List �
 
   -- and at it, where a file is read from start 0, so that 31 is never given
   door-says : isMode mode ≡ true → (said : ℕ × ℕ) → Means text words 0 (length kept) said
-      → Says mode text words kept definitions statements arguments (afterDoor said (afterReading (fileReading mode text words) (length definitions) (length statements) (length arguments)))
+      → Says mode text words kept definitions statements arguments (afterDoor said (afterReading (keptTokens text words) (fileReading mode text words) (length definitions) (length statements) (length arguments)))
   door-says known said (means-30 f) = says-30 known f
   door-says known said (means-35 f h) = says-35 known f h
   door-says known said (means-31 f h k) = absurd (omega (arith, k, kept-not-empty text words f))
@@ -131,12 +132,12 @@ module _ {mode : ℕ} {text words kept definitions statements arguments : List �
 
   -- the answer and the tables are those of the reading ds, and Eof stands at n
   pub record Holding (n : ℕ) (ds : List Definition) : Type 0 where
-    pub answer : values r ≡ fileNumbers (read ds n)
+    pub answer : values r ≡ fileNumbers tokens (read ds n)
     pub definitionsHold : definitions′ ≡ filled (length definitions) (definitionRecords 0 0 ds)
     pub statementsHold : statements′ ≡ filled (length statements) (fileStatements 0 0 ds)
     pub argumentsHold : arguments′ ≡ filled (length arguments) (fileArgumentRecords ds)
 
-  holding : (n : ℕ) (ds : List Definition) → fileReading mode text words ≡ read ds n → values r ≡ fileNumbers (read ds n) → Holding n ds
+  holding : (n : ℕ) (ds : List Definition) → fileReading mode text words ≡ read ds n → values r ≡ fileNumbers tokens (read ds n) → Holding n ds
   unfolding heldAfter
   holding n ds e is =
       record { answer = is; definitionsHold = call .definitionsHold ∙ rw (e, is); statementsHold = call .statementsHold ∙ rw (e, is); argumentsHold = call .argumentsHold ∙ rw (e, is) }
@@ -163,22 +164,24 @@ module _ {mode : ℕ} {text words kept definitions statements arguments : List �
       go v is (says-34 n ds l f h k g) = absurd (omega (arith, number-is is))
       go v is (says-read n ds l f room) = record { through = l; n = n; ds = ds; follows = f; room = room; holds = holding n ds (file-exactly (rulesOf mode) true tokens n ds .1 f) is }
 
-  -- refused by the reading: the door let the call through, and the reader gives this number and cursor
-  pub record RefusedThere (c q : ℕ) : Type 0 where
+  -- refused by the reading: the door let the call through, and the reader gives this number and cursor; type and size are, for 7, those of the token there
+  pub record RefusedThere (c q : ℕ) (told : ℕ × ℕ) : Type 0 where
     pub through : Through (isMode mode ≡ true) text words 0 kept
     pub reads : fileReading mode text words ≡ refused c q
+    pub tells : told ≡ typeTold c (tokenAt tokens q)
 
-  pub refused-there : (c q : ℕ) → values r ≡ refusal c q → ReadingNumber c → RefusedThere c q
-  refused-there c q is ours = go (values r) refl file-call-says
+  pub refused-there : (c q : ℕ) (told : ℕ × ℕ) → values r ≡ refusalOf c q told → ReadingNumber c → RefusedThere c q told
+  refused-there c q told is ours = go (values r) refl file-call-says
     where
-      go : (v : List ℕ) → values r ≡ v → Says mode text words kept definitions statements arguments v → RefusedThere c q
+      go : (v : List ℕ) → values r ≡ v → Says mode text words kept definitions statements arguments v → RefusedThere c q told
       go v e (says-36 k) = absurd (omega (arith, number-is (sym is ∙ e), ours .1))
       go v e (says-30 k f) = absurd (omega (arith, number-is (sym is ∙ e), ours .1))
       go v e (says-35 k f h) = absurd (omega (arith, number-is (sym is ∙ e), ours .1))
       go v e (says-refused {c = d} {q = p} l o g) =
           let k : c ≡ d = number-is (sym is ∙ e) in
           let m : q ≡ p = ap (λ (w : List ℕ). getD w 1 0) (sym is ∙ e) in
-          record { through = l; reads = rw (k, m) g }
+          let t : told ≡ typeTold d (tokenAt tokens p) = ap (λ (w : List ℕ). (getD w 5 0, getD w 6 0)) (sym is ∙ e) in
+          record { through = l; reads = rw (k, m) g; tells = rw (k, m) t }
       go v e (says-32 n ds l f h) = absurd (omega (arith, number-is (sym is ∙ e), ours .1))
       go v e (says-33 n ds l f h k) = absurd (omega (arith, number-is (sym is ∙ e), ours .1))
       go v e (says-34 n ds l f h k g) = absurd (omega (arith, number-is (sym is ∙ e), ours .1))
@@ -197,7 +200,7 @@ module _ {mode : ℕ} {text words kept definitions statements arguments : List �
 
   -- each word of each record of an accepted call: the definitions cover the tokens from place 0 to the cursor, and there stands the list's Eof. (That zeros stand
   -- behind the records, the promise says itself.)
-  pub file-call-tables : (q k n m : ℕ) → values r ≡ 0 ∷ q ∷ k ∷ n ∷ m ∷ []
+  pub file-call-tables : (q k n m : ℕ) → values r ≡ acceptance q k n m
       → FileTable tokens definitions′ statements′ arguments′ 0 k 0 n 0 m 0 q × (q < length tokens) × Stands tokens q Eof
   file-call-tables q k n m is =
       let a = accepted (number-is is) in
@@ -207,11 +210,11 @@ module _ {mode : ℕ} {text words kept definitions statements arguments : List �
       rw (ap (λ (w : List ℕ). getD w 1 0) told) at (rw (ap (λ (w : List ℕ). getD w 2 0) told) at (rw (ap (λ (w : List ℕ). getD w 3 0) told) at (rw (ap (λ (w : List ℕ). getD w 4 0) told) at all)))
 
   -- and the statements of each definition record, by the words alone but for the braces
-  pub file-call-ranges : (q k n m : ℕ) → values r ≡ 0 ∷ q ∷ k ∷ n ∷ m ∷ [] → (d : ℕ) → d < k → StatementsOf tokens definitions′ statements′ d
+  pub file-call-ranges : (q k n m : ℕ) → values r ≡ acceptance q k n m → (d : ℕ) → d < k → StatementsOf tokens definitions′ statements′ d
   file-call-ranges q k n m is = file-walked tokens definitions′ statements′ arguments′ k n m q (file-call-tables q k n m is .0)
 
   -- for each label among the statements of a macro, fn or test, its inner records: no labels, from behind its colon to its end
-  pub file-call-labels : (q k n m : ℕ) → values r ≡ 0 ∷ q ∷ k ∷ n ∷ m ∷ []
+  pub file-call-labels : (q k n m : ℕ) → values r ≡ acceptance q k n m
       → (d : ℕ) → d < k → macroDefinition ≤ definitionWord 0 definitions′ d → definitionWord 0 definitions′ d ≤ testDefinition
       → (x : ℕ) → definitionWord 8 definitions′ d ≤ x → x < definitionWord 8 definitions′ d + definitionWord 9 definitions′ d → typeWord statements′ x ≡ labelType
       → Flat statements′ (suc x) (innerWord statements′ x) (suc (suc (firstWord statements′ x))) (endWord statements′ x)
@@ -219,48 +222,65 @@ module _ {mode : ℕ} {text words kept definitions statements arguments : List �
       let body = file-call-ranges q k n m is d below .ofMacro least most in
       walk-labels-all statements′ (definitionWord 8 definitions′ d) (suc (body .b)) (definitionWord 8 definitions′ d + definitionWord 9 definitions′ d) (definitionWord 3 definitions′ d - 1) (body .between)
 
-  -- a number of the reading is given exactly where the reader gives it, behind the door
-  said : (c q : ℕ) → ReadingNumber c → (What : Type 0) → (fileReading mode text words ≡ refused c q) ↔ What
+  -- a number of the reading but 7 is given exactly where the reader gives it, behind the door
+  said : (c q : ℕ) → ReadingNumber c → eqb c number.InvalidTypeAsArgumentName ≡ false → (What : Type 0) → (fileReading mode text words ≡ refused c q) ↔ What
       → (values r ≡ refusal c q) ↔ ((isMode mode ≡ true) × WellFormed text words × (length (keptOf words) ≤ length kept) × What)
-  unfolding afterReading
-  said c q ours What means = (
-    (λ is. let there = refused-there c q is ours in (there .through .known, there .through .list .formed, there .through .list .room-enough, means .0 (there .reads))),
-    (λ w. call .answer ∙ rw (w .0, let-through text words 0 (length kept) (w .1) (w .2) (kept-not-empty text words (w .1))) (rw (means .1 (w .3)))),
+  unfolding afterReading typeTold
+  said c q ours other What means = (
+    (λ is. let there = refused-there c q (number.typeNone, 0) is ours in (there .through .known, there .through .list .formed, there .through .list .room-enough, means .0 (there .reads))),
+    (λ w. call .answer ∙ rw (w .0, let-through text words 0 (length kept) (w .1) (w .2) (kept-not-empty text words (w .1))) (rw (means .1 (w .3), other))),
   )
 
   -- ---- the cursor
 
   -- refused with a number of the reading but 20: there is a first token that the rules don't allow, and the cursor is it or one past it
-  pub file-call-cursor : (c q : ℕ) → values r ≡ refusal c q → ReadingNumber c → eqb c number.DuplicateMacro ≡ false → (w : ℕ) × FirstWrongFile (rulesOf mode) tokens w × CursorAt (rulesOf mode) tokens c q w
-  file-call-cursor c q is ours other = file-cursor (rulesOf mode) true tokens c q (refused-there c q is ours .reads) other
+  pub file-call-cursor : (c q : ℕ) (told : ℕ × ℕ) → values r ≡ refusalOf c q told → ReadingNumber c → eqb c number.DuplicateMacro ≡ false → (w : ℕ) × FirstWrongFile (rulesOf mode) tokens w × CursorAt (rulesOf mode) tokens c q w
+  file-call-cursor c q told is ours other = file-cursor (rulesOf mode) true tokens c q (refused-there c q told is ours .reads) other
 
   -- 20 is given exactly, in either mode, to a well-formed list, with a kept list long enough, in which a whole macro, fn or test is named like one before it; the cursor is its name
   pub file-call-repeated : (q : ℕ) → (values r ≡ refusal number.DuplicateMacro q) ↔ ((isMode mode ≡ true) × WellFormed text words × (length (keptOf words) ≤ length kept) × RepeatedAt (rulesOf mode) tokens q)
-  file-call-repeated q = said number.DuplicateMacro q (omega arith) (RepeatedAt (rulesOf mode) tokens q) (file-repeated (rulesOf mode) tokens q)
+  file-call-repeated q = said number.DuplicateMacro q (omega arith) refl (RepeatedAt (rulesOf mode) tokens q) (file-repeated (rulesOf mode) tokens q)
 
   -- 21 exactly where definitions stand up to a Pound; the cursor is the Pound
   pub file-call-pound : (q : ℕ) → (values r ≡ refusal number.PoundAtTopLevel q) ↔ ((isMode mode ≡ true) × WellFormed text words × (length (keptOf words) ≤ length kept) × Reached (rulesOf mode) true tokens Pound q)
-  file-call-pound q = said number.PoundAtTopLevel q (omega arith) (Reached (rulesOf mode) true tokens Pound q) (file-pound (rulesOf mode) true tokens q)
+  file-call-pound q = said number.PoundAtTopLevel q (omega arith) refl (Reached (rulesOf mode) true tokens Pound q) (file-pound (rulesOf mode) true tokens q)
 
--- another call in the same mode, on a well-formed list with a kept list long enough, whose kept tokens are the same from place 0 to the cursor: it is refused alike, and its
--- tables are zero. Not so for 20: a macro's brace, behind its name, has to be read first
+  -- ---- the type
+
+  -- the last two numbers of every call: for 7 type and size of the token at the cursor, for every other number 0
+  pub file-call-type : TellsType tokens (values r)
+  file-call-type = go (values r) file-call-says
+    where
+      go : (v : List ℕ) → Says mode text words kept definitions statements arguments v → TellsType tokens v
+      go v (says-36 k) = tells-none tokens number.UnknownMode 0 (omega arith)
+      go v (says-30 {at = at} k f) = tells-none tokens number.NotWellFormed at (omega arith)
+      go v (says-35 k f h) = tells-none tokens number.KeptTooShort _ (omega arith)
+      go v (says-refused {c = c} {q = q} l ours e) = tells-at tokens c q
+      go v (says-32 n ds l f h) = tells-none tokens number.DefinitionsTooSmall _ (omega arith)
+      go v (says-33 n ds l f h k) = tells-none tokens number.StatementsTooSmall _ (omega arith)
+      go v (says-34 n ds l f h k g) = tells-none tokens number.ArgumentsTooSmall _ (omega arith)
+      go v (says-read n ds l f room) = tells-accepted tokens _ _ _ _
+
+-- another call in the same mode, on a well-formed list with a kept list long enough, whose kept tokens are the same from place 0 to the cursor: it is refused alike,
+-- with the same type and size, and its tables are zero. Not so for 20: a macro's brace, behind its name, has to be read first
 module _ {mode : ℕ} {text words kept definitions statements arguments : List ℕ} {r : File} {kept′ definitions′ statements′ arguments′ : List ℕ}
     {text₂ words₂ kept₂ definitions₂ statements₂ arguments₂ : List ℕ} {r₂ : File} {kept₂′ definitions₂′ statements₂′ arguments₂′ : List ℕ} where
-  pub file-call-same-refusal : (c q : ℕ)
+  pub file-call-same-refusal : (c q : ℕ) (told : ℕ × ℕ)
       → FileCall mode text words kept definitions statements arguments r kept′ definitions′ statements′ arguments′
-      → values r ≡ refusal c q → ReadingNumber c → eqb c number.DuplicateMacro ≡ false
+      → values r ≡ refusalOf c q told → ReadingNumber c → eqb c number.DuplicateMacro ≡ false
       → WellFormed text₂ words₂ → length (keptOf words₂) ≤ length kept₂
       → take (suc q) (keptTokens text words) ≡ take (suc q) (keptTokens text₂ words₂)
       → FileCall mode text₂ words₂ kept₂ definitions₂ statements₂ arguments₂ r₂ kept₂′ definitions₂′ statements₂′ arguments₂′
-      → (values r₂ ≡ refusal c q)
+      → (values r₂ ≡ refusalOf c q told)
       × (definitions₂′ ≡ filled (length definitions₂) [])
       × (statements₂′ ≡ filled (length statements₂) [])
       × (arguments₂′ ≡ filled (length arguments₂) [])
   unfolding afterReading
-  file-call-same-refusal c q call is ours other formed room agree second =
-      let there = refused-there call c q is ours in
+  file-call-same-refusal c q told call is ours other formed room agree second =
+      let there = refused-there call c q told is ours in
       let reads = file-same-refusal (rulesOf mode) true (keptTokens text words) (keptTokens text₂ words₂) c q (there .reads) other agree in
-      let said : values r₂ ≡ refusal c q = second .answer ∙ rw (there .through .known, let-through text₂ words₂ 0 (length kept₂) formed room (kept-not-empty text₂ words₂ formed)) (rw reads) in (
+      let tells : told ≡ typeTold c (tokenAt (keptTokens text₂ words₂) q) = there .tells ∙ ap (typeTold c) (agree-at q (keptTokens text words) (keptTokens text₂ words₂) agree) in
+      let said : values r₂ ≡ refusalOf c q told = second .answer ∙ rw (tells, there .through .known, let-through text₂ words₂ 0 (length kept₂) formed room (kept-not-empty text₂ words₂ formed)) (rw reads) in (
         said,
         second .definitionsHold ∙ rw said (held-refused c _ definitions₂ ours),
         second .statementsHold ∙ rw said (held-refused c _ statements₂ ours),
@@ -279,7 +299,7 @@ pub record Told (definitions statements arguments : List ℕ) (r : File) (defini
 -- a mode that there is, a well-formed list, a kept list long enough, and tables with room for the reading's records: the call answers the reading
 pub with-room : {mode : ℕ} {text words kept definitions statements arguments : List ℕ} {r : File} {kept′ definitions′ statements′ arguments′ : List ℕ}
     → isMode mode ≡ true → WellFormed text words → length (keptOf words) ≤ length kept
-    → (o : FileOutcome) → fileOutcome (fileReading mode text words) ≡ o
+    → (o : FileOutcome) → fileOutcome (keptTokens text words) (fileReading mode text words) ≡ o
     → length (o .definitions) ≤ length definitions / definitionWidth
     → length (o .statements) ≤ length statements / statementWidth
     → length (o .arguments) ≤ length arguments / argumentWidth
@@ -289,20 +309,20 @@ unfolding afterReading heldAfter
 with-room {mode} {text} {words} {kept} {definitions} {statements} {arguments} {r} {kept′} {definitions′} {statements′} {arguments′} known formed enough o is room room′ room″ call =
     rw is at (go (fileReading mode text words) refl (rw (← is) at room) (rw (← is) at room′) (rw (← is) at room″))
   where
-    answered : values r ≡ afterReading (fileReading mode text words) (length definitions) (length statements) (length arguments)
+    answered : values r ≡ afterReading (keptTokens text words) (fileReading mode text words) (length definitions) (length statements) (length arguments)
     answered = call .answer ∙ rw (known, let-through text words 0 (length kept) formed enough (kept-not-empty text words formed))
 
     go : (x : Answer (List Definition)) → fileReading mode text words ≡ x
         → length (recordsOf (definitionRecords 0 0) x) ≤ length definitions / definitionWidth
         → length (recordsOf (fileStatements 0 0) x) ≤ length statements / statementWidth
         → length (recordsOf fileArgumentRecords x) ≤ length arguments / argumentWidth
-        → Told definitions statements arguments r definitions′ statements′ arguments′ (fileOutcome x)
+        → Told definitions statements arguments r definitions′ statements′ arguments′ (fileOutcome (keptTokens text words) x)
     go (read ds n) e hd hs ha =
         let many = file-as-many 0 0 ds in
-        let told : values r ≡ fileNumbers (read ds n) = answered ∙ rw e (rw (le-ltb _ _ (rw (many .0) at hd), le-ltb _ _ (rw (many .1) at hs), le-ltb _ _ (rw (many .2) at ha))) in
+        let told : values r ≡ fileNumbers (keptTokens text words) (read ds n) = answered ∙ rw e (rw (le-ltb _ _ (rw (many .0) at hd), le-ltb _ _ (rw (many .1) at hs), le-ltb _ _ (rw (many .2) at ha))) in
         record { answer = told; definitionsHold = call .definitionsHold ∙ rw (e, told); statementsHold = call .statementsHold ∙ rw (e, told); argumentsHold = call .argumentsHold ∙ rw (e, told) }
     go (refused c q) e hd hs ha =
-        let told : values r ≡ refusal c q = answered ∙ rw e in
+        let told : values r ≡ refusalAt (keptTokens text words) c q = answered ∙ rw e in
         let ours = file-ours (rulesOf mode) true (keptTokens text words) c q e in
         record {
           answer = told;
@@ -333,7 +353,7 @@ unfolding fileOutcomes
 rows-answered mode texts list known hold = all-map (λ row. answer row ≡ row .outcome) (Answered mode texts) list one (all-mapped answer (λ row. row .outcome) list hold)
   where
     answer : FileRow → FileOutcome
-    answer row = fileOutcome (fileAt (rulesOf mode) true (tokensOf texts 0 (ended (row .input))))
+    answer row = let all = tokensOf texts 0 (ended (row .input)) in fileOutcome all (fileAt (rulesOf mode) true all)
 
     one : (row : FileRow) → answer row ≡ row .outcome → Answered mode texts row
     one row e text words kept definitions statements arguments r kept′ definitions′ statements′ arguments′ formed same enough room room′ room″ call =

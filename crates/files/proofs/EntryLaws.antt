@@ -8,7 +8,8 @@ use borrow.Author.Tests.{lt-ltb, le-ltb}
 use lib.ListN.{length, replicate, take}
 use Rattle.tokens.specs.Number.{definitionWidth, statementWidth, argumentWidth}
 use Rattle.tokens.specs.Lent.{clearedBehind}
-use Rattle.tokens.specs.Token.{view}
+use Rattle.tokens.specs.Token.{Token, tokenAt, view}
+use Rattle.tokens.specs.Name.{typeTold}
 use Rattle.tokens.specs.Kept.{keptOf}
 use Rattle.tokens.specs.Door as doors
 use Rattle.tokens.specs.Door.{door, Prepared}
@@ -46,18 +47,19 @@ none-left t u v same f = f ∙ ap (λ (n : ℕ). replicate n 0) same ∙ sym (fi
 
 -- ---- each way out of `read_kept`: after a refusal the tables are zeroed, else what stands behind the records
 
-module _ (de st ar de₁ st₁ ar₁ : List ℕ) (de-same : length de₁ ≡ length de) (st-same : length st₁ ≡ length st) (ar-same : length ar₁ ≡ length ar) (de₂ st₂ ar₂ : List ℕ) where
+module _ (all : List Token) (de st ar de₁ st₁ ar₁ : List ℕ) (de-same : length de₁ ≡ length de) (st-same : length st₁ ≡ length st) (ar-same : length ar₁ ≡ length ar) (de₂ st₂ ar₂ : List ℕ) where
   module _ (zeroed : Zeroed de₁ de₂ × Zeroed st₁ st₂ × Zeroed ar₁ ar₂) where
     -- 1 to 21
-    pub taken-refused : (read : Res (List Definition)) (c q : ℕ) (r : FileRead) → FileParsed read de st ar r de₁ st₁ ar₁ → r ≡ files.Refused c q
+    pub taken-refused : (read : Res (List Definition)) (c q t size : ℕ) (r : FileRead) → FileParsed read de st ar r de₁ st₁ ar₁ → r ≡ files.Refused c q
+        → typeTold c (tokenAt all q) ≡ (t, size)
         → (answer read ≡ refused c q → ReadingNumber c)
-        → FileTaken (answer read) de st ar (answers.Refused c q) de₂ st₂ ar₂
+        → FileTaken all (answer read) de st ar (answers.Refused c q t size) de₂ st₂ ar₂
     unfolding afterReading
-    taken-refused (got ds k) c q r h g small = absurd (let z : _≡_ {A = ℕ} 0 1 = cc (h .is) in omega arith)
-    taken-refused (bad y w) c q r h g small =
+    taken-refused (got ds k) c q t size r h g told small = absurd (let z : _≡_ {A = ℕ} 0 1 = cc (h .is) in omega arith)
+    taken-refused (bad y w) c q t size r h g told small =
         let ours = small (cc (h .is)) in
         record {
-          answer = cc (h .is);
+          answer = cc (h .is, told);
           own = ours;
           definitionsHold = none-left de de₁ de₂ de-same (zeroed .0) ∙ sym (held-refused c _ de ours);
           statementsHold = none-left st st₁ st₂ st-same (zeroed .1) ∙ sym (held-refused c _ st ours);
@@ -67,7 +69,7 @@ module _ (de st ar de₁ st₁ ar₁ : List ℕ) (de-same : length de₁ ≡ len
     -- 32
     pub taken-32 : (read : Res (List Definition)) (p d i a : ℕ) (r : FileRead) → FileParsed read de st ar r de₁ st₁ ar₁ → r ≡ files.Done p d i a
         → length de₁ / definitionWidth < d
-        → FileTaken (answer read) de st ar (answers.DefinitionsTooSmall d) de₂ st₂ ar₂
+        → FileTaken all (answer read) de st ar (answers.DefinitionsTooSmall d) de₂ st₂ ar₂
     unfolding afterReading heldAfter
     taken-32 (got ds k) p d i a r h g small =
         let count : length ds ≡ d = cc (h .is) in
@@ -83,7 +85,7 @@ module _ (de st ar de₁ st₁ ar₁ : List ℕ) (de-same : length de₁ ≡ len
     -- 33
     pub taken-33 : (read : Res (List Definition)) (p d i a : ℕ) (r : FileRead) → FileParsed read de st ar r de₁ st₁ ar₁ → r ≡ files.Done p d i a
         → d ≤ length de₁ / definitionWidth → length st₁ / statementWidth < i
-        → FileTaken (answer read) de st ar (answers.StatementsTooSmall i) de₂ st₂ ar₂
+        → FileTaken all (answer read) de st ar (answers.StatementsTooSmall i) de₂ st₂ ar₂
     unfolding afterReading heldAfter
     taken-33 (got ds k) p d i a r h g room small =
         let count : length ds ≡ d = cc (h .is) in
@@ -100,7 +102,7 @@ module _ (de st ar de₁ st₁ ar₁ : List ℕ) (de-same : length de₁ ≡ len
     -- 34
     pub taken-34 : (read : Res (List Definition)) (p d i a : ℕ) (r : FileRead) → FileParsed read de st ar r de₁ st₁ ar₁ → r ≡ files.Done p d i a
         → d ≤ length de₁ / definitionWidth → i ≤ length st₁ / statementWidth → length ar₁ / argumentWidth < a
-        → FileTaken (answer read) de st ar (answers.ArgumentsTooSmall a) de₂ st₂ ar₂
+        → FileTaken all (answer read) de st ar (answers.ArgumentsTooSmall a) de₂ st₂ ar₂
     unfolding afterReading heldAfter
     taken-34 (got ds k) p d i a r h g room room′ small =
         let count : length ds ≡ d = cc (h .is) in
@@ -124,7 +126,7 @@ module _ (de st ar de₁ st₁ ar₁ : List ℕ) (de-same : length de₁ ≡ len
   pub taken-read : (read : Res (List Definition)) (p d i a : ℕ) (r : FileRead) → FileParsed read de st ar r de₁ st₁ ar₁ → r ≡ files.Done p d i a
       → d ≤ length de₁ / definitionWidth → i ≤ length st₁ / statementWidth → a ≤ length ar₁ / argumentWidth
       → (de₂ ≡ clearedBehind definitionWidth d de₁) × (st₂ ≡ clearedBehind statementWidth i st₁) × (ar₂ ≡ clearedBehind argumentWidth a ar₁)
-      → FileTaken (answer read) de st ar (answers.Read p d i a) de₂ st₂ ar₂
+      → FileTaken all (answer read) de st ar (answers.Read p d i a) de₂ st₂ ar₂
   unfolding afterReading heldAfter
   taken-read (got ds k) p d i a r h g room room′ room″ cleared =
       let count : length ds ≡ d = cc (h .is) in
@@ -165,10 +167,10 @@ module _ (mode : ℕ) (known : isMode mode ≡ true) (text words kept kept′ : 
 
   -- let through: the reading of the kept numbers, which are the first words of the kept list
   pub called-ready : (n : ℕ) → r ≡ Ready n → (de st ar : List ℕ) (f : File) (de′ st′ ar′ : List ℕ)
-      → FileTaken (fileAt (rulesOf mode) true (view text words (take (n - 0) kept′))) de st ar f de′ st′ ar′
+      → FileTaken (view text words (take (n - 0) kept′)) (fileAt (rulesOf mode) true (view text words (take (n - 0) kept′))) de st ar f de′ st′ ar′
       → FileCall mode text words kept de st ar f kept′ de′ st′ ar′
   called-ready n is de st ar f de′ st′ ar′ taken =
-      let read : FileTaken (fileAt (rulesOf mode) true (view text words (keptOf words))) de st ar f de′ st′ ar′ = rw (kept-part text words 0 kept prepared is .0) at taken in
+      let read : FileTaken (view text words (keptOf words)) (fileAt (rulesOf mode) true (view text words (keptOf words))) de st ar f de′ st′ ar′ = rw (kept-part text words 0 kept prepared is .0) at taken in
       record {
         answer = read .answer ∙ rw (known, sym (told is));
         own = read .own;

@@ -40,7 +40,7 @@ module _ {mode : ℕ} {text words kept definitions statements arguments : List �
   the-one known formed enough n ds f room =
       let e : fileReading mode text words ≡ read ds n = file-exactly (rulesOf mode) true (keptTokens text words) n ds .1 f in
       let many = file-as-many 0 0 ds in
-      let told = with-room known formed enough (fileOutcome (read ds n)) (ap fileOutcome e) (rw (many .0) (room .forDefinitions)) (rw (many .1) (room .forStatements)) (rw (many .2) (room .forArguments)) call in
+      let told = with-room known formed enough (fileOutcome (keptTokens text words) (read ds n)) (ap (fileOutcome (keptTokens text words)) e) (rw (many .0) (room .forDefinitions)) (rw (many .1) (room .forStatements)) (rw (many .2) (room .forArguments)) call in
       record {
         only = λ n′ ds′ f′. file-only-one (rulesOf mode) true (keptTokens text words) n n′ ds ds′ f f′;
         holds = record { answer = told .answer; definitionsHold = told .definitionsHold; statementsHold = told .statementsHold; argumentsHold = told .argumentsHold };

@@ -6,6 +6,7 @@ use tokens::clear;
 use tokens::clear_behind;
 use tokens::number;
 use tokens::prepare;
+use tokens::type_told;
 ghost use mathlib.Core.Path.{_≡_};
 ghost use mathlib.Core.Bool.{true};
 ghost use lib.ListN.{length, replicate};
@@ -25,8 +26,8 @@ pub enum File {
     // 30 and 35, at the door.
     NotWellFormed(usize),
     KeptTooShort(usize),
-    // 1 to 22: number and cursor.
-    Refused(u32, usize),
+    // 1 to 22: number and cursor; type and size of the token there for 7, else 0 and 0.
+    Refused(u32, usize, u32, usize),
     // 32, 33 and 34: the records needed.
     DefinitionsTooSmall(usize),
     StatementsTooSmall(usize),
@@ -75,7 +76,8 @@ fn read_kept(
     arguments: &mut [u32],
 ) -> File
     requires { ⌜ FromDoor (now tokens) (now kept) ⌝ }
-    ensures { λ r. ⌜ FileTaken (fileAt (asks strict) true (view (now (text .entry)) (now (tokens .entry)) (now (kept .entry))))
+    ensures { λ r. ⌜ FileTaken (view (now (text .entry)) (now (tokens .entry)) (now (kept .entry)))
+        (fileAt (asks strict) true (view (now (text .entry)) (now (tokens .entry)) (now (kept .entry))))
         (now (definitions .entry)) (now (statements .entry)) (now (arguments .entry)) r
         (now (definitions .exit)) (now (statements .exit)) (now (arguments .exit)) ⌝ }
 {
@@ -90,7 +92,8 @@ fn read_kept(
     ) {
         FileRead::Refused(c, q) => {
             clear_all(definitions, statements, arguments);
-            File::Refused(c, q)
+            let t = type_told(text, tokens, kept, c, q);
+            File::Refused(c, q, t.ty, t.size)
         }
         FileRead::Done(p, d, i, a) => {
             if definitions.len() / number::DEFINITION_WIDTH < d {

@@ -6,7 +6,7 @@ use mathlib.Core.List.{List, map, flatten}
 use Rattle.tokens.specs.Number.{lenientMode, strictMode}
 use Rattle.tokens.specs.Byte.{bytes, same, isHex, allHex}
 use Rattle.tokens.specs.Push.{isValuePush}
-use Rattle.tokens.specs.Name.{decimal, multiples, sized, reservedNames, oneOf, reserved}
+use Rattle.tokens.specs.Name.{decimal, multiples, sized, bareTypes, typeNames, lookUp, typeOf, reserved, typeTold, oneOf}
 use Rattle.grammar.specs.Rules.{rulesOf}
 use Rattle.grammar.specs.Grammar.{allowed}
 use Rattle.grammar.specs.Records.{argumentsOf, groupArguments, allArguments, simpleRecords, groupRecords, statementRecords, groupCount, statementCount}
@@ -22,8 +22,9 @@ use Rattle.grammar.specs.FileCases.{FileRow, FileOutcome, fileRows, stri
 
 -- what the reader answers for each row in a mode, with the rule on names, whatever the texts that no rule looks at; the line says what must compute for that
 unfoldable pub fileOutcomes : ℕ → (ℕ → List ℕ) → List FileRow → List FileOutcome
-unfolding bytes same isHex allHex isValuePush decimal multiples sized reservedNames oneOf reserved flatten allowed argumentsOf groupArguments allArguments simpleRecords groupRecords statementRecords groupCount statementCount look choose seq many separated entries closedList callArgument nameStep untypedStep nameArgument operandStep identStep item items groupRest labelGroup groups bodyFrom indexedHere locationHere typedName typedArgument singleNumber digitTotal sizeOf entryAllowed repeats formArguments entryRecords formCount formStatements definitionRecord definitionRecords fileStatements fileArguments fileArgumentRecords fileStatementCount byKind optional named parseImports functionType functionRest parseFunction eventRest parseEvent constantValue constantRest parseConstant errorRest parseCustomError macroRest parseMacro tableEntry tableEntries parseTableBody tableRest parseTable parseDefinition topLevel checked definition parse fileAt tokensOf
-fileOutcomes mode texts list = map (λ row. fileOutcome (fileAt (rulesOf mode) true (tokensOf texts 0 (ended (row .input))))) list
+unfolding bytes same isHex allHex isValuePush decimal multiples sized bareTypes typeNames lookUp typeOf reserved typeTold oneOf flatten allowed argumentsOf groupArguments allArguments simpleRecords groupRecords statementRecords groupCount statementCount look choose seq many separated entries closedList callArgument nameStep untypedStep nameArgument operandStep identStep item items groupRest labelGroup groups bodyFrom indexedHere locationHere typedName typedArgument singleNumber digitTotal sizeOf entryAllowed repeats formArguments entryRecords formCount formStatements definitionRecord definitionRecords fileStatements fileArguments fileArgumentRecords fileStatementCount byKind optional named parseImports functionType functionRest parseFunction eventRest parseEvent constantValue constantRest parseConstant errorRest parseCustomError macroRest parseMacro tableEntry tableEntries parseTableBody tableRest parseTable parseDefinition topLevel checked definition parse fileAt tokensOf
+fileOutcomes mode texts list =
+    map (λ row. let kept = tokensOf texts 0 (ended (row .input)) in fileOutcome kept (fileAt (rulesOf mode) true kept)) list
 
 -- document 01's rows of files, one of each definition, and refusals of every kind
 pub file-rows-hold : (texts : ℕ → List ℕ) → fileOutcomes lenientMode texts fileRows ≡ map (λ row. row .outcome) fileRows

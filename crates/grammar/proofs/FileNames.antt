@@ -8,13 +8,13 @@ use mathlib.Core.List.{List, [], _∷_}
 use lib.ListN.{length}
 use Rattle.tokens.specs.Token.{Token}
 use Rattle.tokens.specs.Byte.{same}
-use Rattle.tokens.specs.Name.{oneOf}
+use Rattle.tokens.specs.Name.{oneOf, AllDifferent}
 use Rattle.tokens.proofs.NameLaws.{same-equal}
 use Rattle.grammar.specs.Rules.{Rules}
 use Rattle.grammar.specs.Grammar.{Many, none, more}
 use Rattle.grammar.specs.FileReading.{Definition, isMacro}
 use Rattle.grammar.specs.FileGrammar.{repeats, rememberName, Fresh, fresh, File}
-use Rattle.grammar.specs.FileFollows.{macroNames, AllDifferent}
+use Rattle.grammar.specs.FileFollows.{macroNames}
 use Rattle.grammar.specs.Facts.{All}
 
 -- no definition repeats a name of those before it

@@ -49,6 +49,13 @@ pub agree-none : (n : ℕ) (us : List Token) → take (suc n) [] ≡ take (suc n
 agree-none n [] e = refl
 agree-none n (u ∷ us) e = cc
 
+-- and the same last token of those on which they agree
+pub agree-at : (n : ℕ) (ts us : List Token) → take (suc n) ts ≡ take (suc n) us → tokenAt ts n ≡ tokenAt us n
+agree-at zero ts us e = agree-first zero ts us e
+agree-at (suc n) [] us e = ap (λ (l : List Token). tokenAt l (suc n)) (sym (agree-none (suc n) us e))
+agree-at (suc n) (t ∷ ts) [] e = cc
+agree-at (suc n) (t ∷ ts) (u ∷ us) e = agree-at n ts us (cc)
+
 pub agree-cons : (n : ℕ) (t : Token) (ts us : List Token) → take (suc n) (t ∷ ts) ≡ take (suc n) us → (vs : List Token) × (us ≡ t ∷ vs)
 agree-cons n t ts [] e = ([], cc)
 agree-cons n t ts (u ∷ us) e = (us, cc)

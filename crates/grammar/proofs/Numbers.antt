@@ -1,4 +1,5 @@
--- The numbers of a reading's refusals lie below those of the door and of the room, so that what a call leaves is told by its number.
+-- The numbers of a reading's refusals lie below those of the door and of the room, so that what a call leaves is told by its number; and what the last two
+-- numbers of an answer tell.
 use Prim.Native.Nat.{ℕ, _<_}
 use native.Mathlib.Omega.{arith}
 use mathlib.Core.Path.{_≡_, refl}
@@ -6,15 +7,16 @@ use mathlib.Core.Bool.{Bool, true, false, _&&_, false≢true}
 use mathlib.Core.List.{List, []}
 use lib.ListN.{length}
 use lib.Dec.{eqb, leb}
-use borrow.Author.Tests.{eqb-true, leb-true, ne-eqb}
-use Rattle.tokens.specs.Number.{NotWellFormed}
+use borrow.Author.Tests.{eqb-true, leb-true, eq-eqb, ne-eqb}
+use Rattle.tokens.specs.Number.{InvalidTypeAsArgumentName, NotWellFormed}
 use Rattle.tokens.specs.Token.{Token}
+use Rattle.tokens.specs.Name.{typeTold}
 use Rattle.grammar.specs.Rules.{Rules}
 use Rattle.grammar.specs.Result.{refused}
 use Rattle.grammar.specs.Reader.{bodyAt}
 use Rattle.grammar.specs.FileReader.{fileAt}
 use Rattle.grammar.specs.FileFollows.{isDefinitionNumber}
-use Rattle.grammar.specs.Call.{ReadingNumber, filled, heldAfter}
+use Rattle.grammar.specs.Call.{ReadingNumber, acceptance, refusal, refusalAt, TellsType, filled, heldAfter}
 use Rattle.grammar.proofs.FileHolds.{either, body-is-inner}
 use Rattle.grammar.proofs.Demand.{known-numbers}
 use Rattle.grammar.proofs.FileDemand.{file-numbers}
@@ -47,3 +49,16 @@ pub held-refused : (c : ℕ) (rs : List (List ℕ)) (lent : List ℕ) → Readin
 unfolding heldAfter
 held-refused c rs lent h =
     rw (ne-eqb c 30 (λ e. omega (arith, h .1)), ne-eqb c 31 (λ e. omega (arith, h .1)), ne-eqb c 35 (λ e. omega (arith, h .1)), ne-eqb c 36 (λ e. omega (arith, h .1)), ne-eqb c 38 (λ e. omega (arith, h .1)), ne-eqb c 0 (λ e. omega (arith, h .0)))
+
+-- ---- the last two numbers
+
+module _ (kept : List Token) where
+  pub tells-accepted : (cursor first second third : ℕ) → TellsType kept (acceptance cursor first second third)
+  tells-accepted cursor first second third = record { for7 = λ e. absurd (omega arith); otherwise = λ n. (refl, refl) }
+
+  pub tells-none : (c q : ℕ) → ¬ (c ≡ InvalidTypeAsArgumentName) → TellsType kept (refusal c q)
+  tells-none c q other = record { for7 = λ e. absurd (other e); otherwise = λ n. (refl, refl) }
+
+  pub tells-at : (c q : ℕ) → TellsType kept (refusalAt kept c q)
+  unfolding typeTold
+  tells-at c q = record { for7 = λ e. rw (eq-eqb c 7 e); otherwise = λ n. rw (ne-eqb c 7 n) (refl, refl) }

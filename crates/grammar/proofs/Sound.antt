@@ -11,7 +11,7 @@ use Rattle.tokens.specs.Token.{Token}
 use Rattle.tokens.specs.Kind.{OpenParen, CloseParen, OpenBrace, CloseBrace, CloseBracket, RightAngle, Comma, Colon, Ident, Literal, Opcode}
 use Rattle.tokens.specs.Byte.{bytes, same, isHex, digit, allHex, valueAfter}
 use Rattle.tokens.specs.Literal.{isLiteral, literalValue, bytesFrom, significant}
-use Rattle.tokens.specs.Name.{decimal, multiples, sized, reservedNames, oneOf, reserved}
+use Rattle.tokens.specs.Name.{decimal, multiples, sized, bareTypes, typeNames, lookUp, typeOf, reserved, oneOf}
 use Rattle.tokens.specs.Push.{isValuePush, pushSize, fits}
 use Rattle.tokens.specs.WellFormed.{textGood, extraGood}
 use Rattle.grammar.specs.Reading.{Argument, Entry, Simple, Group, aConstant, anArgumentCall, anInvocation, aBuiltin, called, oneToken, angled, located, arguments, enclosed}
@@ -37,7 +37,7 @@ abbrev someZero : Token
 someZero = record { kind = Literal; text = bytes "0x0"; extra = 0 }
 
 some-name-allowed : (n : ℕ) → allowed n someName ≡ true
-unfolding allowed reserved reservedNames oneOf sized decimal multiples same bytes
+unfolding allowed reserved typeOf lookUp typeNames bareTypes sized decimal multiples same bytes
 some-name-allowed n = ap not (and-false (odd n))
 
 some-zero-fits : (b : ℕ) → isValuePush b ≡ true → fits b (bytes "0x0") ≡ true

@@ -1,10 +1,13 @@
--- What both calls say alike: the five numbers of an answer, and what a lent table holds afterwards.
+-- What both calls say alike: the seven numbers of an answer, and what a lent table holds afterwards.
 use Prim.Native.Nat.{ℕ, _+_, _-_, _<_}
+use mathlib.Core.Path.{_≡_}
 use mathlib.Core.Bool.{Bool, cond, _||_}
 use mathlib.Core.List.{List, [], _∷_, _++_, flatten}
-use lib.ListN.{length, replicate}
+use lib.ListN.{length, getD, replicate}
 use lib.Dec.{eqb}
-use Rattle.tokens.specs.Number.{NotWellFormed, StartOutside, KeptTooShort, UnknownMode, UnknownEdition}
+use Rattle.tokens.specs.Number.{NotWellFormed, StartOutside, KeptTooShort, UnknownMode, UnknownEdition, InvalidTypeAsArgumentName, typeNone}
+use Rattle.tokens.specs.Token.{Token, tokenAt}
+use Rattle.tokens.specs.Name.{typeOf, typeTold}
 use Rattle.tokens.specs.Door.{door}
 use Rattle.grammar.specs.Rules.{isMode}
 use Rattle.grammar.specs.Reading.{Reading}
@@ -18,20 +21,32 @@ use Rattle.grammar.specs.Result.{Answer, read, refused}
 abbrev pub ReadingNumber : ℕ → Type 0
 ReadingNumber c = (0 < c) × (c < NotWellFormed)
 
--- a refusal: its number, its cursor, "counts and length 0"
+-- accepted: 0, the cursor, three counts, no type
+abbrev pub acceptance : ℕ → ℕ → ℕ → ℕ → List ℕ
+acceptance cursor first second third = 0 ∷ cursor ∷ first ∷ second ∷ third ∷ typeNone ∷ 0 ∷ []
+
+-- a refusal: its number, its cursor, "counts and length 0", and the type and size that it tells
+abbrev pub refusalOf : ℕ → ℕ → ℕ × ℕ → List ℕ
+refusalOf c q told = c ∷ q ∷ 0 ∷ 0 ∷ 0 ∷ told .0 ∷ told .1 ∷ []
+
+-- one that tells none
 abbrev pub refusal : ℕ → ℕ → List ℕ
-refusal c q = c ∷ q ∷ 0 ∷ 0 ∷ 0 ∷ []
+refusal c q = refusalOf c q (typeNone, 0)
 
--- a body call from a start, where the tables have room: number (0 accepted), cursor, statements, arguments, plain length; `short`: one
--- byte pushes a zero
-abbrev pub bodyNumbers : Bool → ℕ → Answer Reading → List ℕ
-bodyNumbers short start (read r n) = 0 ∷ (start + n) ∷ statementCount r ∷ argumentCount r ∷ plainLength short r ∷ []
-bodyNumbers short start (refused c q) = refusal c q
+-- of these kept tokens: for 7 the type and size of the token at the cursor
+abbrev pub refusalAt : List Token → ℕ → ℕ → List ℕ
+refusalAt kept c q = refusalOf c q (typeTold c (tokenAt kept q))
 
--- a file call: number, cursor, definitions, statements, arguments
-abbrev pub fileNumbers : Answer (List Definition) → List ℕ
-fileNumbers (read ds n) = 0 ∷ n ∷ length ds ∷ fileStatementCount ds ∷ length (fileArguments ds) ∷ []
-fileNumbers (refused c q) = refusal c q
+-- a body call from a start of these kept tokens, where the tables have room: number (0 accepted), cursor, statements, arguments, plain length, type, size;
+-- `short`: one byte pushes a zero
+abbrev pub bodyNumbers : List Token → Bool → ℕ → Answer Reading → List ℕ
+bodyNumbers kept short start (read r n) = acceptance (start + n) (statementCount r) (argumentCount r) (plainLength short r)
+bodyNumbers kept short start (refused c q) = refusalAt kept c q
+
+-- a file call: number, cursor, definitions, statements, arguments, type, size
+abbrev pub fileNumbers : List Token → Answer (List Definition) → List ℕ
+fileNumbers kept (read ds n) = acceptance n (length ds) (fileStatementCount ds) (length (fileArguments ds))
+fileNumbers kept (refused c q) = refusalAt kept c q
 
 -- a number that the caller chooses: this refusal, cursor 0, if there is none such; else what comes next
 abbrev pub chosen : Bool → ℕ → ℕ × ℕ → ℕ × ℕ
@@ -65,3 +80,8 @@ unfoldable pub heldAfter : ℕ → List (List ℕ) → List ℕ → List ℕ
 heldAfter c rs lent =
     cond (eqb c NotWellFormed || eqb c StartOutside || eqb c KeptTooShort || eqb c UnknownMode || eqb c UnknownEdition) lent
     (cond (eqb c 0) (filled (length lent) rs) (filled (length lent) []))
+
+-- what the last two numbers of an answer for these kept tokens tell: for 7 the type and size of the token at the cursor; for every other number they are 0
+pub record TellsType (kept : List Token) (v : List ℕ) : Type 0 where
+  pub for7 : getD v 0 0 ≡ InvalidTypeAsArgumentName → typeOf (tokenAt kept (getD v 1 0) .text) ≡ (getD v 5 0, getD v 6 0)
+  pub otherwise : ¬ (getD v 0 0 ≡ InvalidTypeAsArgumentName) → (getD v 5 0 ≡ typeNone) × (getD v 6 0 ≡ 0)

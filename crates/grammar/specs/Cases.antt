@@ -1,5 +1,5 @@
--- Document 01, "Bodies and files on both sides": the rows marked P, input and answer side by side, further bodies, and those of requests [1] and [8]. Eof
--- follows each body.
+-- Document 01, "Bodies and files on both sides": the rows marked P, input and answer side by side, further bodies, and those of requests [1], [8] and [10].
+-- Eof follows each body.
 use Prim.Native.Nat.{ℕ, suc}
 use Prim.Native.String.{String}
 use mathlib.Core.List.{List, [], _∷_, _++_}
@@ -10,17 +10,17 @@ use Rattle.grammar.specs.Reading.{NONE, Reading}
 use Rattle.grammar.specs.Records.{statementRecords, argumentRecords}
 use Rattle.grammar.specs.Result.{Answer}
 use Rattle.grammar.specs.PlainLength.{shortZeros}
-use Rattle.grammar.specs.Call.{refusal, bodyNumbers, recordsOf}
+use Rattle.grammar.specs.Call.{refusal, refusalOf, bodyNumbers, recordsOf}
 
--- what a body call answers: number, cursor, statements, arguments, plain length; and the records of both tables
+-- what a body call answers: number, cursor, statements, arguments, plain length, type, size; and the records of both tables
 pub record Outcome : Type 0 where
   pub answers : List ℕ
   pub statements : List (List ℕ)
   pub arguments : List (List ℕ)
 
--- of an answer of the call at place p, in an edition, where the tables have room
-abbrev pub outcome : ℕ → ℕ → Answer Reading → Outcome
-outcome edition p x = record { answers = bodyNumbers (shortZeros edition) p x; statements = recordsOf (statementRecords 0 0) x; arguments = recordsOf argumentRecords x }
+-- of an answer of the call at place p of these kept tokens, in an edition, where the tables have room
+abbrev pub outcome : List Token → ℕ → ℕ → Answer Reading → Outcome
+outcome kept edition p x = record { answers = bodyNumbers kept (shortZeros edition) p x; statements = recordsOf (statementRecords 0 0) x; arguments = recordsOf argumentRecords x }
 
 -- a token as a row has it: of a kind whose text no rule looks at; with its text; an opcode by its byte; a number
 pub data Sketch : Type 0 where
@@ -56,11 +56,19 @@ pub record Row : Type 0 where
 
 -- a row that is accepted: cursor, statements, arguments, plain length; statement records; argument records
 abbrev pub acceptedRow : List Sketch → List ℕ → List (List ℕ) → List (List ℕ) → Row
-acceptedRow input answers statements arguments = record { input = input; outcome = record { answers = 0 ∷ answers; statements = statements; arguments = arguments } }
+acceptedRow input answers statements arguments = record { input = input; outcome = record { answers = 0 ∷ (answers ++ (0 ∷ 0 ∷ [])); statements = statements; arguments = arguments } }
 
--- a row that is refused: number and cursor
+-- a row that is refused: the answer
+abbrev pub refusedWith : List Sketch → List ℕ → Row
+refusedWith input answers = record { input = input; outcome = record { answers = answers; statements = []; arguments = [] } }
+
+-- number and cursor, and no type
 abbrev pub refusedRow : List Sketch → ℕ → ℕ → Row
-refusedRow input c q = record { input = input; outcome = record { answers = refusal c q; statements = []; arguments = [] } }
+refusedRow input c q = refusedWith input (refusal c q)
+
+-- 7: cursor, type, size
+abbrev pub typeRow : List Sketch → ℕ → ℕ → ℕ → Row
+typeRow input q t size = refusedWith input (refusalOf 7 q (t, size))
 
 -- the rows marked P
 abbrev pub rows : List Row
@@ -98,7 +106,7 @@ rows =
     -- { < 0x01 > }
     ∷ refusedRow (mark LeftAngle ∷ word Literal "0x01" ∷ mark RightAngle ∷ []) 13 2
     -- builtin { f ( a uint256 ) }
-    ∷ refusedRow (word BuiltinFunction "f" ∷ mark OpenParen ∷ word Ident "a" ∷ word Ident "uint256" ∷ mark CloseParen ∷ []) 7 4
+    ∷ typeRow (word BuiltinFunction "f" ∷ mark OpenParen ∷ word Ident "a" ∷ word Ident "uint256" ∷ mark CloseParen ∷ []) 4 5 256
     ∷ []
 
 -- further bodies: the table's rows without P, the slips that look right, one for each rule that a row of the table leaves open, and those of request [3]
@@ -188,7 +196,7 @@ others =
     ((8 ∷ 1 ∷ 9 ∷ 1 ∷ 0 ∷ 0 ∷ 4 ∷ 1 ∷ []) ∷ [])
     ((2 ∷ NONE ∷ 3 ∷ 0 ∷ 0 ∷ 3 ∷ 4 ∷ []) ∷ (1 ∷ NONE ∷ 4 ∷ 0 ∷ 0 ∷ 4 ∷ 5 ∷ []) ∷ (3 ∷ NONE ∷ 5 ∷ 0 ∷ 0 ∷ 5 ∷ 6 ∷ []) ∷ (1 ∷ NONE ∷ 7 ∷ 0 ∷ 2 ∷ 6 ∷ 8 ∷ []) ∷ [])
     -- builtin { f ( a "s" uint256 ) }
-    ∷ refusedRow (word BuiltinFunction "f" ∷ mark OpenParen ∷ word Ident "a" ∷ word Str "s" ∷ word Ident "uint256" ∷ mark CloseParen ∷ []) 7 5
+    ∷ typeRow (word BuiltinFunction "f" ∷ mark OpenParen ∷ word Ident "a" ∷ word Str "s" ∷ word Ident "uint256" ∷ mark CloseParen ∷ []) 5 5 256
     -- builtin { f ( calldata ) }, { f ( calldata , ) }, { f ( calldata memory a ) }: a location without its name
     ∷ refusedRow (word BuiltinFunction "f" ∷ mark OpenParen ∷ mark Calldata ∷ mark CloseParen ∷ []) 8 4
     ∷ refusedRow (word BuiltinFunction "f" ∷ mark OpenParen ∷ mark Calldata ∷ mark Comma ∷ mark CloseParen ∷ []) 8 5
@@ -197,9 +205,9 @@ others =
     ∷ refusedRow (word BuiltinFunction "f" ∷ mark OpenParen ∷ word Ident "a" ∷ mark Comma ∷ mark Comma ∷ word Ident "b" ∷ mark CloseParen ∷ []) 8 6
     -- builtin lists with a PrimitiveType t: { f ( t ) }, { f ( a t ) }, { f ( a , t ) }, { f ( a calldata t ) }
     ∷ refusedRow (word BuiltinFunction "f" ∷ mark OpenParen ∷ mark PrimitiveType ∷ mark CloseParen ∷ []) 1 3
-    ∷ refusedRow (word BuiltinFunction "f" ∷ mark OpenParen ∷ word Ident "a" ∷ mark PrimitiveType ∷ mark CloseParen ∷ []) 7 4
+    ∷ typeRow (word BuiltinFunction "f" ∷ mark OpenParen ∷ word Ident "a" ∷ word PrimitiveType "bool" ∷ mark CloseParen ∷ []) 4 2 0
     ∷ refusedRow (word BuiltinFunction "f" ∷ mark OpenParen ∷ word Ident "a" ∷ mark Comma ∷ mark PrimitiveType ∷ mark CloseParen ∷ []) 1 5
-    ∷ refusedRow (word BuiltinFunction "f" ∷ mark OpenParen ∷ word Ident "a" ∷ mark Calldata ∷ mark PrimitiveType ∷ mark CloseParen ∷ []) 7 5
+    ∷ typeRow (word BuiltinFunction "f" ∷ mark OpenParen ∷ word Ident "a" ∷ mark Calldata ∷ word PrimitiveType "bool" ∷ mark CloseParen ∷ []) 5 2 0
     -- { F ( a , , ) }: a call list eats none
     ∷ refusedRow (word Ident "F" ∷ mark OpenParen ∷ word Ident "a" ∷ mark Comma ∷ mark Comma ∷ mark CloseParen ∷ []) 10 5
     -- { F ( < 0x01 > ) }: 13 is given only for statements
@@ -280,4 +288,43 @@ editionRows pick =
     ∷ acceptedRow (word Label "go" ∷ mark Colon ∷ PUSH1 ∷ word Label "b" ∷ mark Colon ∷ word Literal "0x00" ∷ []) (8 ∷ 4 ∷ 0 ∷ pick NONE NONE ∷ [])
     ((5 ∷ 1 ∷ 4 ∷ 1 ∷ 1 ∷ 0 ∷ 0 ∷ 1 ∷ []) ∷ (2 ∷ 3 ∷ 4 ∷ 2 ∷ 0 ∷ 0 ∷ 0 ∷ 3 ∷ []) ∷ (5 ∷ 4 ∷ 7 ∷ 3 ∷ 1 ∷ 0 ∷ 0 ∷ 4 ∷ []) ∷ (1 ∷ 6 ∷ 7 ∷ 4 ∷ 0 ∷ 0 ∷ 0 ∷ 6 ∷ []) ∷ [])
     []
+    ∷ []
+
+-- f ( a NAME ) of a builtin f
+abbrev pub given : Sketch → List Sketch
+given name = word BuiltinFunction "f" ∷ mark OpenParen ∷ word Ident "a" ∷ name ∷ mark CloseParen ∷ []
+
+-- the name at place 4 is a type, of this size
+abbrev pub typeGiven : Sketch → ℕ → ℕ → Row
+typeGiven name t size = typeRow (given name) 4 t size
+
+-- the name is none: two arguments
+abbrev pub nameGiven : String → Row
+nameGiven name =
+    acceptedRow (given (word Ident name)) (7 ∷ 1 ∷ 2 ∷ NONE ∷ [])
+    ((8 ∷ 1 ∷ 6 ∷ 1 ∷ 0 ∷ 0 ∷ 2 ∷ 1 ∷ []) ∷ [])
+    ((1 ∷ NONE ∷ 3 ∷ 0 ∷ 0 ∷ 3 ∷ 4 ∷ []) ∷ (1 ∷ NONE ∷ 4 ∷ 0 ∷ 0 ∷ 4 ∷ 5 ∷ []) ∷ [])
+
+-- request [10]: names of each type, PrimitiveTypes, names that are no types
+abbrev pub typeRows : List Row
+typeRows =
+    typeGiven (word Ident "uint256") 5 256
+    ∷ typeGiven (word Ident "uint") 5 256
+    ∷ typeGiven (word Ident "int8") 6 8
+    ∷ typeGiven (word Ident "int") 6 256
+    ∷ typeGiven (word Ident "bytes32") 7 32
+    ∷ typeGiven (word Ident "bytes") 4 0
+    ∷ typeGiven (word Ident "bool") 2 0
+    ∷ typeGiven (word Ident "string") 3 0
+    ∷ typeGiven (word PrimitiveType "address") 1 0
+    ∷ typeGiven (word PrimitiveType "uint16") 5 16
+    -- a PrimitiveType whose text is no type's
+    ∷ typeGiven (word PrimitiveType "foo") 0 0
+    ∷ nameGiven "uint264"
+    ∷ nameGiven "bytes0"
+    ∷ nameGiven "uint08"
+    ∷ nameGiven "Uint8"
+    ∷ nameGiven "bytes33"
+    -- f ( %bool ): a type, but the number is 1
+    ∷ refusedRow (word BuiltinFunction "f" ∷ mark OpenParen ∷ word PrimitiveType "bool" ∷ mark CloseParen ∷ []) 1 3
     ∷ []

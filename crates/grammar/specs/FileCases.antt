@@ -1,28 +1,28 @@
--- Document 01, "Bodies and files on both sides": the rows of files, input and answer side by side, further files, and those of request [1]. Eof follows
--- each.
+-- Document 01, "Bodies and files on both sides": the rows of files, input and answer side by side, further files, and those of request [1]. Eof follows each.
 use Prim.Native.Nat.{ℕ}
 use Prim.Native.String.{String}
 use mathlib.Core.List.{List, [], _∷_, _++_}
+use Rattle.tokens.specs.Token.{Token}
 use Rattle.tokens.specs.Kind.{Eof, Include, Define, Pound, Macro, Fn, Test, Function, Event, Constant, Error, JumpTable, JumpTablePacked, CodeTable, Takes, Returns, View, Indexed, Calldata, Memory, Assign, OpenParen, CloseParen, OpenBrace, CloseBrace, Comma, Colon, FreeStoragePointer, Ident, Label, Literal, Str, PrimitiveType}
 use Rattle.grammar.specs.Reading.{NONE}
 use Rattle.grammar.specs.FileReading.{Definition}
 use Rattle.grammar.specs.FileRecords.{definitionRecords, fileStatements, fileArgumentRecords}
 use Rattle.grammar.specs.Result.{Answer}
-use Rattle.grammar.specs.Call.{refusal, fileNumbers, recordsOf}
+use Rattle.grammar.specs.Call.{refusal, refusalOf, fileNumbers, recordsOf}
 use Rattle.grammar.specs.Cases.{Sketch, mark, word, num, PUSH1}
 
--- what a file call answers: number, cursor, definitions, statements, arguments; and the records of the three tables
+-- what a file call answers: number, cursor, definitions, statements, arguments, type, size; and the records of the three tables
 pub record FileOutcome : Type 0 where
   pub answers : List ℕ
   pub definitions : List (List ℕ)
   pub statements : List (List ℕ)
   pub arguments : List (List ℕ)
 
--- of an answer, where the tables have room
-abbrev pub fileOutcome : Answer (List Definition) → FileOutcome
-fileOutcome x =
+-- of an answer for these kept tokens, where the tables have room
+abbrev pub fileOutcome : List Token → Answer (List Definition) → FileOutcome
+fileOutcome kept x =
     record {
-      answers = fileNumbers x;
+      answers = fileNumbers kept x;
       definitions = recordsOf (definitionRecords 0 0) x;
       statements = recordsOf (fileStatements 0 0) x;
       arguments = recordsOf fileArgumentRecords x;
@@ -40,11 +40,19 @@ ended ts = ts ++ (mark Eof ∷ [])
 -- a row that is accepted: cursor and counts; definition, statement and argument records
 abbrev pub acceptedFile : List Sketch → List ℕ → List (List ℕ) → List (List ℕ) → List (List ℕ) → FileRow
 acceptedFile input answers definitions statements arguments =
-    record { input = input; outcome = record { answers = 0 ∷ answers; definitions = definitions; statements = statements; arguments = arguments } }
+    record { input = input; outcome = record { answers = 0 ∷ (answers ++ (0 ∷ 0 ∷ [])); definitions = definitions; statements = statements; arguments = arguments } }
 
--- a row that is refused: number and cursor
+-- a row that is refused: the answer
+abbrev pub refusedFileWith : List Sketch → List ℕ → FileRow
+refusedFileWith input answers = record { input = input; outcome = record { answers = answers; definitions = []; statements = []; arguments = [] } }
+
+-- number and cursor, and no type
 abbrev pub refusalFile : List Sketch → ℕ → ℕ → FileRow
-refusalFile input c q = record { input = input; outcome = record { answers = refusal c q; definitions = []; statements = []; arguments = [] } }
+refusalFile input c q = refusedFileWith input (refusal c q)
+
+-- 7: cursor, type, size
+abbrev pub typeFile : List Sketch → ℕ → ℕ → ℕ → FileRow
+typeFile input q t size = refusedFileWith input (refusalOf 7 q (t, size))
 
 -- #define kind name
 abbrev pub head : ℕ → Sketch → List Sketch → List Sketch
@@ -131,8 +139,9 @@ fileRows =
     ∷ refusalFile (head Constant (word Ident "C") (mark Assign ∷ mark OpenBrace ∷ [])) 3 4
     -- typed lists: ( t , , ), ( t t ), ( t uint8 ), ( calldata ), and Indexed in an error
     ∷ refusalFile (head Error (word Ident "E") (mark OpenParen ∷ mark PrimitiveType ∷ mark Comma ∷ mark Comma ∷ [])) 8 6
-    ∷ refusalFile (head Error (word Ident "E") (mark OpenParen ∷ mark PrimitiveType ∷ mark PrimitiveType ∷ [])) 7 5
-    ∷ refusalFile (head Error (word Ident "E") (mark OpenParen ∷ mark PrimitiveType ∷ word Ident "uint8" ∷ [])) 7 5
+    ∷ typeFile (head Error (word Ident "E") (mark OpenParen ∷ mark PrimitiveType ∷ word PrimitiveType "bool" ∷ [])) 5 2 0
+    ∷ typeFile (head Error (word Ident "E") (mark OpenParen ∷ mark PrimitiveType ∷ word Ident "uint8" ∷ [])) 5 5 8
+    ∷ typeFile (head Macro (word Ident "M") (mark OpenParen ∷ word Ident "a" ∷ word Ident "int16" ∷ [])) 5 6 16
     ∷ refusalFile (head Error (word Ident "E") (mark OpenParen ∷ mark Calldata ∷ [])) 8 4
     ∷ refusalFile (head Error (word Ident "E") (mark OpenParen ∷ mark PrimitiveType ∷ mark Indexed ∷ [])) 8 5
     -- #define function f ( ) returns ( )

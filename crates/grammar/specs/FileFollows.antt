@@ -7,7 +7,6 @@ use lib.ListN.{length, take, drop}
 use lib.Dec.{eqb, leb}
 use Rattle.tokens.specs.Token.{Token, tokenAt}
 use Rattle.tokens.specs.Kind.{Eof, Function, Event, Error}
-use Rattle.tokens.specs.Name.{oneOf}
 use Rattle.grammar.specs.Rules.{Rules}
 use Rattle.grammar.specs.Follows.{allProper, past}
 use Rattle.grammar.specs.FileReading.{Definition, isMacro}
@@ -21,11 +20,6 @@ FollowsFile m names kept n ds = (n < length kept) × (tokenAt kept n .kind ≡ E
 unfoldable pub macroNames : List Definition → List (List ℕ)
 macroNames [] = []
 macroNames (d ∷ ds) = cond (isMacro (d .form)) (d .token .text ∷ macroNames ds) (macroNames ds)
-
--- no two of these names are equal byte for byte
-abbrev pub AllDifferent : List (List ℕ) → Type 0
-AllDifferent [] = Unit {0}
-AllDifferent (n ∷ ns) = (oneOf ns n ≡ false) × AllDifferent ns
 
 -- a macro, fn or test stands whole behind a beginning without a repeated name, is named like one of that beginning, and its name stands at q
 pub record RepeatedAt (m : Rules) (kept : List Token) (q : ℕ) : Type 0 where

@@ -1,4 +1,4 @@
--- That any two results meeting a promise are equal: the five numbers and all that is lent. Assumes nothing.
+-- That any two results meeting a promise are equal: the seven numbers and all that is lent. Assumes nothing.
 use Prim.Native.Nat.{ℕ}
 use mathlib.Core.Path.{_≡_, sym, ap, _∙_}
 use mathlib.Core.List.{List}

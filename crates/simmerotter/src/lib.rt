@@ -2,11 +2,12 @@
 // elements, the answer's array as its pointer. `bindings/c/simmerotter.h` and `bindings/rust` declare the same two functions.
 mod values;
 
+use tokens::number::ANSWER_NUMBERS;
 use values::body_values;
 use values::file_values;
 ghost use Rattle.simmerotter.specs.Answered.{FileAnswered, BodyAnswered};
 
-// Reads a whole file in a mode, 0 or 1: `files::read_file`, its answer as number, cursor, definitions, statements, arguments.
+// Reads a whole file in a mode, 0 or 1: `files::read_file`, its answer as number, cursor, definitions, statements, arguments, type, size.
 #[no_mangle]
 pub extern "C" fn simmerotter_read_file(
     mode: u32,
@@ -16,7 +17,7 @@ pub extern "C" fn simmerotter_read_file(
     definitions: &mut [u32],
     statements: &mut [u32],
     arguments: &mut [u32],
-    answer: &mut [u64; 5],
+    answer: &mut [u64; ANSWER_NUMBERS],
 )
     ensures { λ _. ⌜ FileAnswered mode (now (text .entry)) (now (tokens .entry)) (now (kept .entry)) (now (definitions .entry)) (now (statements .entry))
         (now (arguments .entry)) (now (answer .exit)) (now (kept .exit)) (now (definitions .exit)) (now (statements .exit)) (now (arguments .exit)) ⌝ }
@@ -26,7 +27,7 @@ pub extern "C" fn simmerotter_read_file(
 }
 
 // Reads one body in a mode from place `start` of the kept tokens, and measures it in an edition, 1 or 2: `statements::read_body`, its answer as number, cursor, statements,
-// arguments, plain length.
+// arguments, plain length, type, size.
 #[no_mangle]
 pub extern "C" fn simmerotter_read_body(
     mode: u32,
@@ -37,7 +38,7 @@ pub extern "C" fn simmerotter_read_body(
     kept: &mut [u32],
     statements: &mut [u32],
     arguments: &mut [u32],
-    answer: &mut [u64; 5],
+    answer: &mut [u64; ANSWER_NUMBERS],
 )
     ensures { λ _. ⌜ BodyAnswered mode edition (now (text .entry)) (now (tokens .entry)) start (now (kept .entry)) (now (statements .entry)) (now (arguments .entry))
         (now (answer .exit)) (now (kept .exit)) (now (statements .exit)) (now (arguments .exit)) ⌝ }

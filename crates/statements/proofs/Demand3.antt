@@ -48,7 +48,7 @@ module _ {mode edition : ℕ} {text words : List ℕ} {start : ℕ} {kept statem
       let many = as-many 0 0 rd in
       let some = body-some (rulesOf mode) start (take n (drop start (keptTokens text words))) rd (f .1) in
       let inside : start < length (keptOf words) = omega (arith, f .0, some, length-take-le n (drop start (keptTokens text words)) (omega (arith, length-drop start (keptTokens text words), f .0)), view-length text words (keptOf words)) in
-      let told = with-room named formed inside enough (outcome edition start (read rd n)) (ap (outcome edition start) e) (rw (many .0) (room .forStatements)) (rw (many .1) (room .forArguments)) call in
+      let told = with-room named formed inside enough (outcome (keptTokens text words) edition start (read rd n)) (ap (outcome (keptTokens text words) edition start) e) (rw (many .0) (room .forStatements)) (rw (many .1) (room .forArguments)) call in
       record {
         only = λ n′ rd′ f′. only-one (rulesOf mode) (keptTokens text words) start n n′ rd rd′ f f′;
         holds = record { answer = told .answer; statementsHold = told .statementsHold; argumentsHold = told .argumentsHold };

@@ -10,7 +10,8 @@ use lib.ListN.{length, getD, take, drop, replicate}
 use lib.Dec.{eqb, ltb}
 use Rattle.tokens.specs.Number as number
 use Rattle.tokens.specs.Number.{statementWidth, argumentWidth}
-use Rattle.tokens.specs.Token.{view}
+use Rattle.tokens.specs.Token.{Token, tokenAt, view}
+use Rattle.tokens.specs.Name.{typeTold}
 use Rattle.tokens.specs.Lent.{putAll, clearedBehind}
 use Rattle.tokens.specs.Door as doors
 use Rattle.tokens.specs.Door.{Prepared}
@@ -62,7 +63,7 @@ none-left w t u same = cleared-none w u ∙ ap (λ (n : ℕ). replicate n 0) sam
 abbrev startProgress : ℕ → Progress
 startProgress start = record { at = start; statements = 0; arguments = 0 }
 
-module _ (short : Bool) (st ar : List ℕ) (rd : Reading) (start n : ℕ) where
+module _ (all : List Token) (short : Bool) (st ar : List ℕ) (rd : Reading) (start n : ℕ) where
   abbrev endProgress : Progress
   endProgress = record { at = start + n; statements = statementCount rd; arguments = argumentCount rd }
 
@@ -75,14 +76,14 @@ module _ (short : Bool) (st ar : List ℕ) (rd : Reading) (start n : ℕ) where
 
   settled-answers : {st₁ ar₁ : List ℕ} → st₁ ≡ putAll statementWidth st 0 (statementRecords 0 0 rd) → ar₁ ≡ putAll argumentWidth ar 0 (argumentRecords rd)
       → length st₁ ≡ length st → length ar₁ ≡ length ar
-      → Answers st₁ ar₁ (settledItems (items.Done endProgress) (plainLength short rd) (length st) (length ar)) (afterReading short (read rd n) start (length st) (length ar))
+      → Answers st₁ ar₁ (settledItems all (items.Done endProgress) (plainLength short rd) (length st) (length ar)) (afterReading all short (read rd n) start (length st) (length ar))
   unfolding afterReading heldAfter
   settled-answers {st₁} {ar₁} es ea ls la = go (ltb (length st / statementWidth) (statementCount rd)) refl (ltb (length ar / argumentWidth) (argumentCount rd)) refl
     where
       go : (b : Bool) → ltb (length st / statementWidth) (statementCount rd) ≡ b → (d : Bool) → ltb (length ar / argumentWidth) (argumentCount rd) ≡ d
           → Answers st₁ ar₁
           (cond b (StatementsTooSmall (statementCount rd)) (cond d (ArgumentsTooSmall (argumentCount rd)) (Read (start + n) (statementCount rd) (argumentCount rd) (plainLength short rd))))
-          (cond b (refusal number.StatementsTooSmall (statementCount rd)) (cond d (refusal number.ArgumentsTooSmall (argumentCount rd)) (bodyNumbers short start (read rd n))))
+          (cond b (refusal number.StatementsTooSmall (statementCount rd)) (cond d (refusal number.ArgumentsTooSmall (argumentCount rd)) (bodyNumbers all short start (read rd n))))
       go true eb d ed = record { said = refl; mine = tt; statementsLeft = none-left statementWidth st st₁ ls; argumentsLeft = none-left argumentWidth ar ar₁ la }
       go false eb true ed = record { said = refl; mine = tt; statementsLeft = none-left statementWidth st st₁ ls; argumentsLeft = none-left argumentWidth ar ar₁ la }
       go false eb false ed =
@@ -112,7 +113,7 @@ pub body-read : (m : Rules) (short : Bool) (text words kept : List ℕ) (start :
     → BodyParsed (startProgress start) 0 0 (length kept) (bodyFrom m start (drop start (view text words kept))) st ar x st₁ ar₁
     → length st₁ ≡ length st
     → length ar₁ ≡ length ar
-    → Settled x (lengthFrom short (view text words kept) start) st₁ ar₁ r st₂ ar₂
+    → Settled (view text words kept) x (lengthFrom short (view text words kept) start) st₁ ar₁ r st₂ ar₂
     → BodyRead m short text words kept start st ar r st₂ ar₂
 unfolding bodyAt afterReading
 body-read m short text words kept start st ar {st₁} {ar₁} {st₂} {ar₂} {x} {r} v ls la w = go (bodyFrom m start (drop start (view text words kept))) refl
@@ -121,7 +122,8 @@ body-read m short text words kept start st ar {st₁} {ar₁} {st₂} {ar₂} {x
     go (bad y q) e =
         let v′ = rw e at v in
         let w′ = rw (v′ .is) at w in
-        let is : r ≡ Refused (why.number y) (q + beyond y) = w′ .answer in
+        let told = typeTold (why.number y) (tokenAt (view text words kept) (q + beyond y)) in
+        let is : r ≡ Refused (why.number y) (q + beyond y) (told .0) (told .1) = w′ .answer in
         let ours = body-ours m (view text words kept) start (why.number y) (q + beyond y) (ap answer e) in
         record {
           answer = ap values is ∙ rw e;
@@ -134,9 +136,9 @@ body-read m short text words kept start st ar {st₁} {ar₁} {st₂} {ar₂} {x
         let w′ = rw (v′ .is) at w in
         let long : lengthFrom short (view text words kept) start ≡ plainLength short rd =
         length-is short m (view text words kept) start k rd (body-exactly m (view text words kept) start k rd .0 (ap answer e)) in
-        let is : r ≡ settledItems (items.Done (endProgress short st ar rd start k)) (plainLength short rd) (length st) (length ar) =
+        let is : r ≡ settledItems (view text words kept) (items.Done (endProgress (view text words kept) short st ar rd start k)) (plainLength short rd) (length st) (length ar) =
         w′ .answer ∙ rw (ls, la, long, zero-add (statementCount rd), zero-add (argumentCount rd)) in
-        let told = settled-answers short st ar rd start k (v′ .statementsHold) (v′ .argumentsHold) ls la in
+        let told = settled-answers (view text words kept) short st ar rd start k (v′ .statementsHold) (v′ .argumentsHold) ls la in
         record {
           answer = ap values is ∙ told .said ∙ rw e;
           own = rw is (told .mine);

@@ -16,12 +16,12 @@ use Rattle.statements.specs.declared.entry.Body.the-variants.{UnknownMod
 use Rattle.statements.specs.Answers.{Parsed}
 use Rattle.statements.specs.Call.{values, numberOf, Own, readingAt, BodyCall}
 
--- no two answers have the same five numbers, where `Refused` keeps to its own
+-- no two answers have the same seven numbers, where `Refused` keeps to its own
 pub one-body-answer : (r r′ : Body) → Own r → Own r′ → values r ≡ values r′ → r ≡ r′
 unfolding choose
 one-body-answer r r′ o o′ e = sym (again r o) ∙ ap told e ∙ again r′ o′
   where
-    -- the answer of five numbers
+    -- the answer of seven numbers
     told : List ℕ → Body
     told v =
         choose (
@@ -34,7 +34,7 @@ one-body-answer r r′ o o′ e = sym (again r o) ∙ ap told e ∙ again r′ o
         ∷ (number.StatementsTooSmall, StatementsTooSmall (getD v 1 0))
         ∷ (number.ArgumentsTooSmall, ArgumentsTooSmall (getD v 1 0))
         ∷ [])
-        (Refused (getD v 0 0) (getD v 1 0)) (getD v 0 0)
+        (Refused (getD v 0 0) (getD v 1 0) (getD v 5 0) (getD v 6 0)) (getD v 0 0)
 
     again : (r : Body) → Own r → told (values r) ≡ r
     again UnknownMode o = refl
@@ -42,7 +42,7 @@ one-body-answer r r′ o o′ e = sym (again r o) ∙ ap told e ∙ again r′ o
     again (NotWellFormed at) o = refl
     again (KeptTooShort count) o = refl
     again (StartOutside at) o = refl
-    again (Refused c q) o =
+    again (Refused c q t size) o =
         rw (
           ne-eqb c 0 (λ e. omega (arith, o .0)),
           ne-eqb c 36 (λ e. omega (arith, o .1)),

@@ -11,6 +11,7 @@ use tokens::clear;
 use tokens::clear_behind;
 use tokens::number;
 use tokens::prepare;
+use tokens::type_told;
 ghost use mathlib.Core.Path.{_≡_};
 ghost use lib.ListN.{length, replicate};
 ghost use Rattle.tokens.specs.Token.{view};
@@ -30,8 +31,8 @@ pub enum Body {
     NotWellFormed(usize),
     KeptTooShort(usize),
     StartOutside(usize),
-    // 1 to 13 and 22: number and cursor.
-    Refused(u32, usize),
+    // 1 to 13 and 22: number and cursor; type and size of the token there for 7, else 0 and 0.
+    Refused(u32, usize, u32, usize),
     // 33 and 34: the records needed.
     StatementsTooSmall(usize),
     ArgumentsTooSmall(usize),
@@ -60,12 +61,15 @@ fn settle(
     arguments: &mut [u32],
 ) -> Body
     requires { ⌜ Place (now tokens) (now kept) start ⌝ }
-    ensures { λ r. ⌜ Settled read (lengthFrom short (view (now (text .entry)) (now (tokens .entry)) (now (kept .entry))) start) (now (statements .entry)) (now (arguments .entry)) r (now (statements .exit)) (now (arguments .exit)) ⌝ }
+    ensures { λ r. ⌜ Settled (view (now (text .entry)) (now (tokens .entry)) (now (kept .entry))) read
+        (lengthFrom short (view (now (text .entry)) (now (tokens .entry)) (now (kept .entry))) start)
+        (now (statements .entry)) (now (arguments .entry)) r (now (statements .exit)) (now (arguments .exit)) ⌝ }
 {
     match read {
         Items::Refused(c, q) => {
             clear_both(statements, arguments);
-            Body::Refused(c, q)
+            let t = type_told(text, tokens, kept, c, q);
+            Body::Refused(c, q, t.ty, t.size)
         }
         Items::Done(t) => {
             let m = t.statements;

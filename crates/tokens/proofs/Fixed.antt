@@ -5,6 +5,7 @@ use mathlib.Core.Bool.{cond}
 use mathlib.Core.List.{List}
 use lib.Dec.{eqb}
 use Rattle.tokens.specs.Number as number
+use Rattle.tokens.specs.declared.name.NameType.{NameType}
 use Rattle.tokens.specs.declared.door.Door.{Door}
 use Rattle.tokens.specs.declared.door.Door.the-variants.{NotWellFormed, KeptTooShort, StartOutside, Ready}
 use Rattle.tokens.specs.Place.{KindAt}
@@ -17,6 +18,10 @@ one-answer p q = p ∙ sym q
 -- the promise of `kind_at`
 pub one-kind : {words kept : List ℕ} {p a b : ℕ} → KindAt words kept p a → KindAt words kept p b → a ≡ b
 one-kind m n = one-answer (m .is) (n .is)
+
+-- the promises of `type_of` and `type_told`: type and size
+pub one-type : (a b : NameType) {x : ℕ × ℕ} → _≡_ {A = ℕ × ℕ} (a .ty, a .size) x → _≡_ {A = ℕ × ℕ} (b .ty, b .size) x → a ≡ b
+one-type a b p q = ap (λ (x : ℕ × ℕ). record { ty = x .0; size = x .1 }) (one-answer p q)
 
 -- no two answers of the door have the same number and cursor
 pub one-door : (a b : Door) → values a ≡ values b → a ≡ b

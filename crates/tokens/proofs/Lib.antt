@@ -2,6 +2,7 @@
 pub mod Laws
 pub mod LiteralLaws
 pub mod NameLaws
+pub mod TypeNames
 pub mod DoorLaws
 pub mod TokenLaws
 pub mod KeptLaws

@@ -1,20 +1,20 @@
--- Laws of names: equality byte for byte, decimal numbers, and the list of reserved names. Assumes nothing.
-use Prim.Native.String.{String}
+-- Laws of names: equality byte for byte, decimal numbers, and the list of type names. Assumes nothing.
 use Prim.Native.Nat.{ℕ, zero, suc, _+_, _-_, _*_, _/_, _%_, _≤_, _<_}
 use mathlib.Core.Path.{_≡_, refl, sym, ap, subst, _∙_}
-use mathlib.Core.Bool.{Bool, true, false, _&&_, _||_, and-eq-true-iff, and-assoc, or-assoc, or-true, false≢true}
-use mathlib.Core.List.{List, [], _∷_, _++_, map, List·Memᴰ, List·Memᴰ·head, List·Memᴰ·tail, List·Memᴰ·cases-cons, List·Memᴰ·not-nil}
-use mathlib.Core.Logic.{_↔_, _⊎_, inl, inr, ⊎-elim}
+use mathlib.Core.Bool.{Bool, true, false, cond, _&&_, and-eq-true-iff, and-assoc, false≢true}
+use mathlib.Core.List.{List, [], _∷_, _++_}
+use mathlib.Core.Logic.{_↔_, _⊎_, ⊎-elim}
 use native.Mathlib.Omega.{arith}
-use native.Mathlib.Nat.{sub-zero, mul-pos, mul-le-mul-right, div-mul-le-self, div-add-mod', le-div-iff-mul-le, mul-mod-left}
+use native.Mathlib.Nat.{eq-zero-or-pos, sub-zero, mul-pos, mul-le-mul-right, div-mul-le-self, div-add-mod', le-div-iff-mul-le, mul-mod-left}
 use native.Mathlib.Numerals.{add-one}
 use borrow.Author.Tests.{ltb-true, ltb-false, lt-ltb, le-ltb, leb-true, le-leb, eqb-true, eqb-false, eq-eqb, ne-eqb}
 use lib.Dec.{ltb, leb, eqb}
-use lib.ListN.{length, getD, take, drop, replicate, length-append, length-drop, drop-of-length-le}
+use lib.ListN.{length, getD, take, drop, length-append, length-drop, drop-of-length-le}
 use lib.Seq.{drop-cons, take-all}
 use Rattle.tokens.proofs.Laws.{lt-or-le}
 use Rattle.tokens.specs.Byte.{bytes, same, numeral}
-use Rattle.tokens.specs.Name.{decimal, multiples, sized, reservedNames, oneOf, reserved}
+use Rattle.tokens.specs.Number.{typeNone, typeUint, typeInt, typeBytesN, widestBits, bitsStep, widestBytes}
+use Rattle.tokens.specs.Name.{ListedType, decimal, multiples, sized, bareTypes, uintTypes, intTypes, bytesTypes, typeNames, lookUp, typeOf}
 
 -- ---- tests
 
@@ -243,109 +243,108 @@ behind-read prefix name r e d m p q =
 
 -- ---- sizes in steps
 
-module _ (prefix name : List ℕ) (step r : ℕ) (pos : 0 < step) (behind : Behind prefix name r) where
-  sized-none : (n : ℕ) → n * step < 1000 → ((k : ℕ) → 0 < k → k ≤ n → k * step ≡ r → ⊥) → oneOf (sized prefix (multiples step n)) name ≡ false
-  unfolding oneOf sized multiples
-  sized-none zero h none = refl
-  sized-none (suc n) h none =
-      rw (behind (suc n * step) (omega arith) h, ne-eqb (suc n * step) r (none (suc n) (omega arith) (omega arith)))
-      (sized-none n (omega arith) (λ k a b. none k a (omega arith)))
+-- what the list of a prefix with these sizes gives a name: its type and the size r, or nothing if r is 0
+abbrev pub SizeIn : List ℕ → List ℕ → List ℕ → ℕ → Type 0
+SizeIn prefix sizes name r = (t : ℕ) → lookUp (sized prefix t sizes) name ≡ cond (eqb r 0) (0, 0) (t, r)
 
-  sized-some : (n : ℕ) → n * step < 1000 → (k : ℕ) → 0 < r → k ≤ n → k * step ≡ r → oneOf (sized prefix (multiples step n)) name ≡ true
-  unfolding oneOf sized multiples
-  sized-some zero h k a b e = let z : k ≡ 0 = omega arith in absurd (omega (arith, rw z at e))
-  sized-some (suc n) h k a b e =
+module _ (prefix name : List ℕ) (step r : ℕ) (pos : 0 < step) (behind : Behind prefix name r) where
+  sized-none : (n : ℕ) → n * step < 1000 → ((k : ℕ) → 0 < k → k ≤ n → k * step ≡ r → ⊥) → SizeIn prefix (multiples step n) name 0
+  unfolding lookUp sized multiples
+  sized-none zero h none t = refl
+  sized-none (suc n) h none t =
+      rw (behind (suc n * step) (omega arith) h, ne-eqb (suc n * step) r (none (suc n) (omega arith) (omega arith)))
+      (sized-none n (omega arith) (λ k a b. none k a (omega arith)) t)
+
+  sized-some : (n : ℕ) → n * step < 1000 → (k : ℕ) → 0 < r → k ≤ n → k * step ≡ r → (t : ℕ) → lookUp (sized prefix t (multiples step n)) name ≡ (t, r)
+  unfolding lookUp sized multiples
+  sized-some zero h k a b e t = let z : k ≡ 0 = omega arith in absurd (omega (arith, rw z at e))
+  sized-some (suc n) h k a b e t =
       rw (behind (suc n * step) (omega arith) h)
       (⊎-elim
-      (λ (x : k < suc n). rw (sized-some n (omega arith) k a (omega arith) e, or-true))
-      (λ (x : suc n ≤ k). let y : k ≡ suc n = omega arith in rw (eq-eqb (suc n * step) r (rw y at e)))
+      (λ (x : k < suc n).
+      let below : k ≤ n = omega arith in
+      rw (ne-eqb (suc n * step) r (λ y. omega (arith, mul-le-mul-right step below))) (sized-some n (omega arith) k a below e t))
+      (λ (x : suc n ≤ k). let y : k ≡ suc n = omega arith in let z : suc n * step ≡ r = rw y at e in rw (eq-eqb (suc n * step) r z, z))
       (lt-or-le k (suc n)))
 
   module _ (most : ℕ) (small : most < 1000) where
     fits : most / step * step < 1000
     fits = omega (arith, div-mul-le-self most step)
 
-    pub sized-zero : r ≡ 0 → oneOf (sized prefix (multiples step (most / step))) name ≡ false
-    sized-zero e = sized-none (most / step) fits (λ k a b x. omega (arith, mul-pos a pos))
-
-    pub sized-large : most < r → oneOf (sized prefix (multiples step (most / step))) name ≡ false
+    pub sized-large : most < r → SizeIn prefix (multiples step (most / step)) name 0
     sized-large h =
         sized-none (most / step) fits
         (λ k a b x. omega (arith, div-mul-le-self most step, mul-le-mul-right step b))
 
-    pub sized-within : 0 < r → r ≤ most → oneOf (sized prefix (multiples step (most / step))) name ≡ eqb (r % step) 0
-    sized-within p h = go (eqb (r % step) 0) refl
+    pub sized-between : (r % step ≡ 0 → ⊥) → SizeIn prefix (multiples step (most / step)) name 0
+    sized-between h = sized-none (most / step) fits (λ k a b x. h (rw (← x) (mul-mod-left k step)))
+
+    pub sized-within : r ≤ most → r % step ≡ 0 → SizeIn prefix (multiples step (most / step)) name r
+    sized-within h z t = ⊎-elim zero-size some-size (eq-zero-or-pos r)
       where
-        go : (t : Bool) → eqb (r % step) 0 ≡ t → oneOf (sized prefix (multiples step (most / step))) name ≡ t
-        go true e =
-            let z = eqb-true (r % step) 0 e in
+        zero-size : r ≡ 0 → lookUp (sized prefix t (multiples step (most / step))) name ≡ cond (eqb r 0) (0, 0) (t, r)
+        zero-size e = rw e (sized-none (most / step) fits (λ k a b x. omega (arith, mul-pos a pos)) t)
+
+        some-size : 0 < r → lookUp (sized prefix t (multiples step (most / step))) name ≡ cond (eqb r 0) (0, 0) (t, r)
+        some-size p =
             let x : r / step * step ≡ r = omega (arith, div-add-mod' r step) in
-            sized-some (most / step) fits (r / step) p (le-div-iff-mul-le pos .1 (omega arith)) x
-        go false e =
-            sized-none (most / step) fits
-            (λ k a b x. eqb-false (r % step) 0 e (rw (← x) (mul-mod-left k step)))
+            rw (ne-eqb r 0 (omega arith)) (sized-some (most / step) fits (r / step) p (le-div-iff-mul-le pos .1 (omega arith)) x t)
 
--- ---- the list of reserved names
+-- ---- the list of type names
 
-oneOf-append : (ns ms : List (List ℕ)) (name : List ℕ) → oneOf (ns ++ ms) name ≡ (oneOf ns name || oneOf ms name)
-unfolding oneOf
-oneOf-append [] ms name = refl
-oneOf-append (n ∷ ns) ms name = rw (oneOf-append ns ms name, or-assoc)
+-- no type of the list is 0
+abbrev pub Typed : List ListedType → Type 0
+Typed [] = Unit {0}
+Typed (n ∷ ns) = (eqb (n .1) typeNone ≡ false) × Typed ns
 
-oneOf-five :
-    (a b c d e : List (List ℕ)) (name : List ℕ) → oneOf (a ++ b ++ c ++ d ++ e) name
-    ≡ (oneOf a name || oneOf b name || oneOf c name || oneOf d name || oneOf e name)
-oneOf-five a b c d e name = simp oneOf-append
+sized-typed : (prefix : List ℕ) (t : ℕ) (sizes : List ℕ) → eqb t typeNone ≡ false → Typed (sized prefix t sizes)
+unfolding sized
+sized-typed prefix t [] e = tt
+sized-typed prefix t (m ∷ sizes) e = (e, sized-typed prefix t sizes e)
 
--- the five parts of the list in its order
-abbrev pub plain : List (List ℕ)
-plain = bytes "address" ∷ bytes "bool" ∷ bytes "string" ∷ []
+bare-typed : Typed bareTypes
+unfolding bareTypes
+bare-typed = (refl, (refl, (refl, (refl, (refl, (refl, tt))))))
 
-abbrev pub bare : List (List ℕ)
-bare = bytes "bytes" ∷ bytes "uint" ∷ bytes "int" ∷ []
+uint-typed : Typed uintTypes
+uint-typed = sized-typed (bytes "uint") typeUint (multiples bitsStep (widestBits / bitsStep)) refl
 
-abbrev pub uints : List (List ℕ)
-uints = sized (bytes "uint") (multiples 8 32)
+int-typed : Typed intTypes
+int-typed = sized-typed (bytes "int") typeInt (multiples bitsStep (widestBits / bitsStep)) refl
 
-abbrev pub ints : List (List ℕ)
-ints = sized (bytes "int") (multiples 8 32)
+typed-append : (ns ms : List ListedType) → Typed ns → Typed ms → Typed (ns ++ ms)
+typed-append [] ms h k = k
+typed-append (n ∷ ns) ms h k = (h .0, typed-append ns ms (h .1) k)
 
-abbrev pub byteses : List (List ℕ)
-byteses = sized (bytes "bytes") (multiples 1 32)
+pub names-typed : Typed typeNames
+unfolding typeNames
+names-typed =
+    typed-append bareTypes (uintTypes ++ (intTypes ++ bytesTypes)) bare-typed
+    (typed-append uintTypes (intTypes ++ bytesTypes) uint-typed
+    (typed-append intTypes bytesTypes int-typed (sized-typed (bytes "bytes") typeBytesN (multiples 1 widestBytes) refl)))
 
-pub reserved-parts : (name : List ℕ) → reserved name ≡ (oneOf plain name || oneOf bare name || oneOf uints name || oneOf ints name || oneOf byteses name)
-unfolding reserved reservedNames
-reserved-parts name = oneOf-five plain bare uints ints byteses name
-
-oneOf-sound : (ns : List (List ℕ)) (name : List ℕ) → oneOf ns name ≡ true → List·Memᴰ name ns
-unfolding oneOf
-oneOf-sound [] name e = absurd (false≢true e)
-oneOf-sound (n ∷ ns) name e = go (same n name) refl e (oneOf-sound ns name)
+-- a name that one list has not is looked up in the next
+look-on : (ns ms : List ListedType) (name : List ℕ) → Typed ns → lookUp (ns ++ ms) name ≡ cond (eqb (lookUp ns name .0) typeNone) (lookUp ms name) (lookUp ns name)
+unfolding lookUp
+look-on [] ms name h = refl
+look-on (n ∷ ns) ms name h = go (same (n .0) name) (look-on ns ms name (h .1))
   where
-    go : (t : Bool) → same n name ≡ t → (t || oneOf ns name) ≡ true → (oneOf ns name ≡ true → List·Memᴰ name ns) → List·Memᴰ name (n ∷ ns)
-    go true s x below = List·Memᴰ·head (sym (same-sound n name s))
-    go false s x below = List·Memᴰ·tail (below x)
+    go : (b : Bool) → lookUp (ns ++ ms) name ≡ cond (eqb (lookUp ns name .0) typeNone) (lookUp ms name) (lookUp ns name)
+        → cond b (n .1, n .2) (lookUp (ns ++ ms) name)
+        ≡ cond (eqb (cond b (n .1, n .2) (lookUp ns name) .0) typeNone) (lookUp ms name) (cond b (n .1, n .2) (lookUp ns name))
+    go true below = rw (h .0)
+    go false below = below
 
-oneOf-complete : (ns : List (List ℕ)) (name : List ℕ) → List·Memᴰ name ns → oneOf ns name ≡ true
-unfolding oneOf
-oneOf-complete [] name m = absurd (List·Memᴰ·not-nil m)
-oneOf-complete (n ∷ ns) name m =
-    ⊎-elim (λ (e : name ≡ n). rw (same-equal n name .1 (sym e))) (λ (h : List·Memᴰ name ns). rw (oneOf-complete ns name h, or-true)) (List·Memᴰ·cases-cons m)
+look-four : (a b c d : List ListedType) (name : List ℕ) → Typed a → Typed b → Typed c → lookUp (a ++ (b ++ (c ++ d))) name
+    ≡ cond (eqb (lookUp a name .0) typeNone)
+    (cond (eqb (lookUp b name .0) typeNone) (cond (eqb (lookUp c name .0) typeNone) (lookUp d name) (lookUp c name)) (lookUp b name))
+    (lookUp a name)
+look-four a b c d name first second third = rw (look-on a (b ++ (c ++ d)) name first, look-on b (c ++ d) name second, look-on c d name third)
 
--- reserved is to stand in the list
-pub reserved-listed : (name : List ℕ) → (reserved name ≡ true) ↔ List·Memᴰ name reservedNames
-unfolding reserved
-reserved-listed name = (oneOf-sound reservedNames name, oneOf-complete reservedNames name)
-
-pub reserved-count : length reservedNames ≡ 102
-unfolding reservedNames sized multiples
-reserved-count = refl
-
-abbrev verdicts : List String → List Bool
-verdicts names = map (λ s. reserved (bytes s)) names
-
-pub reserved-examples :
-    (verdicts ("address" ∷ "bool" ∷ "string" ∷ "bytes" ∷ "uint" ∷ "int" ∷ "uint8" ∷ "uint256" ∷ "int16" ∷ "bytes1" ∷ "bytes32" ∷ []) ≡ replicate 11 true)
-    × (verdicts ("uint7" ∷ "uint08" ∷ "uint264" ∷ "bytes0" ∷ "bytes33" ∷ "Uint8" ∷ "" ∷ []) ≡ replicate 7 false)
-unfolding reserved oneOf reservedNames sized multiples decimal bytes same
-reserved-examples = (refl, refl)
+-- the four parts of the list, in its order
+pub type-parts : (name : List ℕ) → typeOf name
+    ≡ cond (eqb (lookUp bareTypes name .0) typeNone)
+    (cond (eqb (lookUp uintTypes name .0) typeNone) (cond (eqb (lookUp intTypes name .0) typeNone) (lookUp bytesTypes name) (lookUp intTypes name)) (lookUp uintTypes name))
+    (lookUp bareTypes name)
+unfolding typeOf typeNames
+type-parts name = look-four bareTypes uintTypes intTypes bytesTypes name bare-typed uint-typed int-typed

@@ -1,5 +1,5 @@
--- Document 01's numbers by name, and 22, 36 and 38 of its change requests, but for the kinds of a token (Kind): refusals, the widths of records, what stands in their words,
--- and limits.
+-- Document 01's numbers by name, and those of its change requests, but for the kinds of a token (Kind): refusals, modes, types, editions, the widths of records, what stands in
+-- their words, and limits.
 use Prim.Native.Nat.{ℕ}
 
 -- ---- "Refusal numbers"
@@ -83,6 +83,43 @@ lenientMode = 0
 
 abbrev pub strictMode : ℕ
 strictMode = 1
+
+-- ---- the types of a name, and 0 for a name that is none
+
+abbrev pub typeNone : ℕ
+typeNone = 0
+
+abbrev pub typeAddress : ℕ
+typeAddress = 1
+
+abbrev pub typeBool : ℕ
+typeBool = 2
+
+abbrev pub typeString : ℕ
+typeString = 3
+
+abbrev pub typeBytes : ℕ
+typeBytes = 4
+
+abbrev pub typeUint : ℕ
+typeUint = 5
+
+abbrev pub typeInt : ℕ
+typeInt = 6
+
+abbrev pub typeBytesN : ℕ
+typeBytesN = 7
+
+-- ---- the sizes of a type: the most bits of uint and int, and the step between two; the most bytes of bytesN
+
+abbrev pub widestBits : ℕ
+widestBits = 256
+
+abbrev pub bitsStep : ℕ
+bitsStep = 8
+
+abbrev pub widestBytes : ℕ
+widestBytes = 32
 
 -- ---- the editions of the plain length: as before request [8], and where one byte pushes a zero
 

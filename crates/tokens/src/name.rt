@@ -1,11 +1,15 @@
-// Names: equality byte for byte, and the reserved type names.
+// Names: equality byte for byte, and the types that names can be.
+use crate::number;
+use crate::token::text_at;
 ghost use Prim.Native.Nat.{ℕ, _/_, _%_, _<_, _≤_};
 ghost use mathlib.Core.Path.{_≡_};
-ghost use mathlib.Core.Bool.{_&&_};
+ghost use mathlib.Core.Bool.{cond, _&&_};
 ghost use mathlib.Core.List.{[], _∷_, _++_};
 ghost use lib.Dec.{leb, eqb};
 ghost use Rattle.tokens.specs.Byte.{same, numeral};
-ghost use Rattle.tokens.specs.Name.{decimal, multiples, sized, oneOf, reserved};
+ghost use Rattle.tokens.specs.Token.{tokenAt, view};
+ghost use Rattle.tokens.specs.Place.{Numbered};
+ghost use Rattle.tokens.specs.Name.{decimal, multiples, sized, lookUp, bareTypes, typeOf, reserved, typeTold};
 
 // Equal byte for byte.
 pub fn same_name(a: &[u8], b: &[u8]) -> bool
@@ -89,51 +93,123 @@ fn size_behind(name: &[u8], prefix: &[u8]) -> usize
     0
 }
 
-// The prefix with a multiple of `step` up to `most` behind it.
-fn is_sized(name: &[u8], prefix: &[u8], step: usize, most: usize) -> bool
+// The size of a name that is the prefix with a multiple of `step` up to `most` behind it; 0 if it is none.
+fn size_in(name: &[u8], prefix: &[u8], step: usize, most: usize) -> usize
     requires { ⌜ (0 < step) × (most < 1000) ⌝ }
-    ensures { λ r. ⌜ r ≡ oneOf (sized (now (prefix .entry)) (multiples step (most / step))) (now (name .entry)) ⌝ }
+    ensures { λ r. ⌜ (r < 1000) × ((t : ℕ) → lookUp (sized (now (prefix .entry)) t (multiples step (most / step))) (now (name .entry)) ≡ cond (eqb r 0) (0, 0) (t, r)) ⌝ }
 {
     let m = size_behind(name, prefix);
-    if m == 0 {
-        return false;
-    }
     if most < m {
-        return false;
+        return 0;
     }
-    m % step == 0
+    if m % step == 0 {
+        return m;
+    }
+    0
 }
 
-// One of three names.
-fn is_one_of(name: &[u8], a: &[u8], b: &[u8], c: &[u8]) -> bool
-    ensures { λ r. ⌜ r ≡ oneOf (now (a .entry) ∷ now (b .entry) ∷ now (c .entry) ∷ []) (now (name .entry)) ⌝ }
+// Which type a name is, with its size: the bits of uint and int, the bytes of bytesN, else 0. Both are 0 for a name that is none.
+pub struct NameType {
+    pub ty: u32,
+    pub size: usize,
+}
+
+// Of a name that is no type.
+const NO_TYPE: NameType = NameType {
+    ty: number::TYPE_NONE,
+    size: 0,
+};
+
+// The type of a name with no size behind it.
+fn bare_type(name: &[u8]) -> NameType
+    ensures { λ r. ⌜ (r .ty, r .size) ≡ lookUp bareTypes (now (name .entry)) ⌝ }
 {
-    if same_name(a, name) {
-        return true;
+    if same_name(b"address", name) {
+        return NameType {
+            ty: number::TYPE_ADDRESS,
+            size: 0,
+        };
     }
-    if same_name(b, name) {
-        return true;
+    if same_name(b"bool", name) {
+        return NameType {
+            ty: number::TYPE_BOOL,
+            size: 0,
+        };
     }
-    same_name(c, name)
+    if same_name(b"string", name) {
+        return NameType {
+            ty: number::TYPE_STRING,
+            size: 0,
+        };
+    }
+    if same_name(b"bytes", name) {
+        return NameType {
+            ty: number::TYPE_BYTES,
+            size: 0,
+        };
+    }
+    if same_name(b"uint", name) {
+        return NameType {
+            ty: number::TYPE_UINT,
+            size: number::WIDEST_BITS,
+        };
+    }
+    if same_name(b"int", name) {
+        return NameType {
+            ty: number::TYPE_INT,
+            size: number::WIDEST_BITS,
+        };
+    }
+    NO_TYPE
 }
 
-// A reserved type name: the test that the Rust's `PrimitiveEVMType::try_from` makes of an argument's name.
+// The type of a name, in place of the Rust's `PrimitiveEVMType::try_from`.
+pub fn type_of(name: &[u8]) -> NameType
+    ensures { λ r. ⌜ (r .ty, r .size) ≡ typeOf (now (name .entry)) ⌝ }
+{
+    let bare = bare_type(name);
+    if bare.ty != number::TYPE_NONE {
+        return bare;
+    }
+    let unsigned = size_in(name, b"uint", number::BITS_STEP, number::WIDEST_BITS);
+    if unsigned != 0 {
+        return NameType {
+            ty: number::TYPE_UINT,
+            size: unsigned,
+        };
+    }
+    let signed = size_in(name, b"int", number::BITS_STEP, number::WIDEST_BITS);
+    if signed != 0 {
+        return NameType {
+            ty: number::TYPE_INT,
+            size: signed,
+        };
+    }
+    let bytes = size_in(name, b"bytes", 1, number::WIDEST_BYTES);
+    if bytes != 0 {
+        return NameType {
+            ty: number::TYPE_BYTES_N,
+            size: bytes,
+        };
+    }
+    NO_TYPE
+}
+
+// A reserved type name: one that has a type. The test that the Rust makes of an argument's name.
 pub fn is_reserved(name: &[u8]) -> bool
     ensures { λ r. ⌜ r ≡ reserved (now (name .entry)) ⌝ }
 {
-    // without a size
-    if is_one_of(name, b"address", b"bool", b"string") {
-        return true;
+    let t = type_of(name);
+    t.ty != number::TYPE_NONE
+}
+
+// The type and the size in an answer with this number: for 7 those of the token at the cursor, for every other none. So no reader carries them: the entry asks once.
+pub fn type_told(text: &[u8], tokens: &[u32], kept: &[u32], refusal: u32, cursor: usize) -> NameType
+    requires { ⌜ Numbered (now tokens) (now kept) ⌝ }
+    ensures { λ r. ⌜ (r .ty, r .size) ≡ typeTold refusal (tokenAt (view (now (text .entry)) (now (tokens .entry)) (now (kept .entry))) cursor) ⌝ }
+{
+    if refusal == number::INVALID_TYPE_AS_ARGUMENT_NAME {
+        return type_of(text_at(text, tokens, kept, cursor));
     }
-    if is_one_of(name, b"bytes", b"uint", b"int") {
-        return true;
-    }
-    // with one
-    if is_sized(name, b"uint", 8, 256) {
-        return true;
-    }
-    if is_sized(name, b"int", 8, 256) {
-        return true;
-    }
-    is_sized(name, b"bytes", 1, 32)
+    NO_TYPE
 }

@@ -1,4 +1,5 @@
-// The numbers of document 01 and of its change requests by name, but for the kinds of a token: refusals, what stands in the words of a record, widths and limits.
+// The numbers of document 01 and of its change requests by name, but for the kinds of a token: refusals, an answer's length, modes, types, editions, what stands in the words
+// of a record, widths and limits.
 
 // Refusals.
 pub const UNEXPECTED_TYPE: u32 = 1;
@@ -49,10 +50,37 @@ pub const UNKNOWN_MODE: u32 = 36;
 
 pub const UNKNOWN_EDITION: u32 = 38;
 
+// How many numbers an answer has.
+pub const ANSWER_NUMBERS: usize = 7;
+
 // The modes of a call.
 pub const MODE_LENIENT: u32 = 0;
 
 pub const MODE_STRICT: u32 = 1;
+
+// The types of a name.
+pub const TYPE_NONE: u32 = 0;
+
+pub const TYPE_ADDRESS: u32 = 1;
+
+pub const TYPE_BOOL: u32 = 2;
+
+pub const TYPE_STRING: u32 = 3;
+
+pub const TYPE_BYTES: u32 = 4;
+
+pub const TYPE_UINT: u32 = 5;
+
+pub const TYPE_INT: u32 = 6;
+
+pub const TYPE_BYTES_N: u32 = 7;
+
+// The sizes of a type: the most bits of uint and int, which are also those of the bare ones, and the step between two; the most bytes of bytesN.
+pub const WIDEST_BITS: usize = 256;
+
+pub const BITS_STEP: usize = 8;
+
+pub const WIDEST_BYTES: usize = 32;
 
 // The editions of the plain length.
 pub const EDITION_FIRST: u32 = 1;

@@ -1,6 +1,6 @@
 //! Cases as lines, what they lend, and answers as lines.
 
-use crate::nodes::Found;
+use crate::nodes::{Found, Told, NO_TYPE};
 
 /// What every lent word holds before the call.
 const FILL: u32 = 2_779_096_485;
@@ -147,7 +147,7 @@ impl Lent {
         ];
         for (refusal, need, room) in needs {
             if need > room {
-                return self.show([refusal, need as u32, 0, 0, 0]);
+                return self.refuse(refusal, need as u32);
             }
         }
         fill(&mut self.definitions, &found.definitions);
@@ -155,15 +155,26 @@ impl Lent {
         fill(&mut self.arguments, &found.arguments);
         let (d, s, a) = (needs[0].1 as u32, needs[1].1 as u32, needs[2].1 as u32);
         let cursor = found.cursor as u32;
-        self.show(if case.body { [0, cursor, s, a, found.length] } else { [0, cursor, d, s, a] })
+        let counts = if case.body { [s, a, found.length] } else { [d, s, a] };
+        self.show(0, cursor, counts, NO_TYPE)
+    }
+
+    /// The answer of a refusal that tells no type.
+    pub fn refuse(&self, number: u32, cursor: u32) -> String {
+        self.refuse_telling(number, cursor, NO_TYPE)
+    }
+
+    /// The answer of a refusal: its counts are 0.
+    pub fn refuse_telling(&self, number: u32, cursor: u32, told: Told) -> String {
+        self.show(number, cursor, [0; 3], told)
     }
 
     /// The answer as a line.
-    pub fn show(&self, numbers: [u32; 5]) -> String {
+    fn show(&self, number: u32, cursor: u32, [c1, c2, c3]: [u32; 3], [ty, size]: Told) -> String {
         let lists = [&self.kept, &self.definitions, &self.statements, &self.arguments];
         let mut line =
             String::with_capacity(32 + 11 * lists.iter().map(|l| l.len()).sum::<usize>());
-        join(&mut line, &numbers, ' ');
+        join(&mut line, &[number, cursor, c1, c2, c3, ty, size], ' ');
         for list in lists {
             line.push('|');
             join(&mut line, list, ',');

@@ -16,8 +16,8 @@
 //!
 //! What the nodes don't hold the driver derives: 30, 31, 35, 36, 38, 32 to 34, the kept list, the
 //! ranges that are wider than the nodes' spans, imports' places, the arguments of calls, the forms of
-//! a builtin's arguments, record numbers and the plain length, in either edition. docs/DIFFERENCES.md
-//! says so.
+//! a builtin's arguments, record numbers, the plain length, in either edition, and the numbers of the
+//! type that the Rust's refusal 7 holds. docs/DIFFERENCES.md says so.
 
 mod case;
 mod nodes;
@@ -88,22 +88,22 @@ fn answer(case: &Case, ways: Ways) -> String {
 
     // The door: 36, 38, 30, 35, 31, in this order, with nothing lent changed.
     if case.mode > STRICT {
-        return lent.show([36, 0, 0, 0, 0]);
+        return lent.refuse(36, 0);
     }
     if !matches!(case.edition, None | Some(FIRST | SECOND)) {
-        return lent.show([38, 0, 0, 0, 0]);
+        return lent.refuse(38, 0);
     }
     if !ways.unformed {
         if let Some(bad) = tokens::first_bad(&case.text, &case.words) {
-            return lent.show([30, bad as u32, 0, 0, 0]);
+            return lent.refuse(30, bad as u32);
         }
     }
     let kept = tokens::kept(&case.words);
     if !ways.unformed && case.kept < kept.len() {
-        return lent.show([35, kept.len() as u32, 0, 0, 0]);
+        return lent.refuse(35, kept.len() as u32);
     }
     if !ways.unformed && case.body && case.start as usize >= kept.len() {
-        return lent.show([31, case.start, 0, 0, 0]);
+        return lent.refuse(31, case.start);
     }
 
     // Only now may the case be out of reach of the Rust.
@@ -125,9 +125,9 @@ fn answer(case: &Case, ways: Ways) -> String {
     });
     match read {
         Err(_) => "PANIC".to_string(),
-        Ok(Err(nodes::No::Number(number, cursor))) => {
+        Ok(Err(nodes::No::Number(number, cursor, told))) => {
             lent.zero_tables();
-            lent.show([number, cursor as u32, 0, 0, 0])
+            lent.refuse_telling(number, cursor as u32, told)
         }
         Ok(Err(nodes::No::Other(name))) => format!("X_{name}"),
         Ok(Ok(found)) => lent.settle(case, &found),

@@ -6,6 +6,7 @@ use huff_utils::{
     ast::*,
     error::{ParserError, ParserErrorKind as Kind},
     token::{Token, TokenKind},
+    types::PrimitiveEVMType,
 };
 
 const NONE: u32 = 4_294_967_295;
@@ -19,9 +20,14 @@ pub struct Found {
     pub arguments: Vec<[u32; 7]>,
 }
 
-/// What was refused: document 01's number and cursor, or a name where it has no number.
+/// Type and size of request [10]; both are 0 where no type is told.
+pub type Told = [u32; 2];
+pub const NO_TYPE: Told = [0, 0];
+
+/// What was refused: document 01's number and cursor with what is told, or a name where it has no
+/// number.
 pub enum No {
-    Number(u32, usize),
+    Number(u32, usize, Told),
     Other(&'static str),
 }
 
@@ -34,7 +40,9 @@ impl From<ParserError> for No {
             Kind::InvalidPush(_) => 4,
             Kind::InvalidTokenInMacroBody(_) => 5,
             Kind::InvalidTokenInLabelDefinition(_) => 6,
-            Kind::InvalidTypeAsArgumentName(_) => 7,
+            Kind::InvalidTypeAsArgumentName(token) => {
+                return told(&token).map_or(LOST, |told| No::Number(7, e.cursor, told))
+            }
             Kind::InvalidArgs(_) => 8,
             Kind::InvalidSingleArg(_) => 9,
             Kind::InvalidMacroArgs(_) => 10,
@@ -42,7 +50,7 @@ impl From<ParserError> for No {
             Kind::InvalidConstant(_) => 12,
             Kind::InvalidArgCallIdent(_) => 13,
             // The Rust's cursor is past the brace; its span is that of the later name.
-            Kind::DuplicateMacro(_) => return No::Number(20, e.spans[0].start),
+            Kind::DuplicateMacro(_) => return No::Number(20, e.spans[0].start, NO_TYPE),
             Kind::InvalidName(_) => return No::Other("InvalidName"),
             Kind::InvalidDecoratorFlag(_) => return No::Other("InvalidDecoratorFlag"),
             Kind::InvalidDecoratorFlagArg(_) => return No::Other("InvalidDecoratorFlagArg"),
@@ -50,7 +58,35 @@ impl From<ParserError> for No {
             Kind::InvalidInt(_) => return No::Other("InvalidInt"),
             Kind::InvalidBytes(_) => return No::Other("InvalidBytes"),
         };
-        No::Number(number, e.cursor)
+        No::Number(number, e.cursor, NO_TYPE)
+    }
+}
+
+/// What the token in the Rust's refusal tells. A PrimitiveType holds its type; a name's text has to
+/// be asked for it again, by the test that the Rust refused it by.
+fn told(token: &TokenKind) -> Option<Told> {
+    match token {
+        TokenKind::PrimitiveType(ty) => Some(type_and_size(ty)),
+        TokenKind::Ident(name) => {
+            PrimitiveEVMType::try_from(name.clone()).ok().map(|ty| type_and_size(&ty))
+        }
+        _ => None,
+    }
+}
+
+/// A size that no reserved name has tells nothing: the Rust holds it, and tests it only where a type
+/// is read.
+fn type_and_size(ty: &PrimitiveEVMType) -> Told {
+    let is_bits = |n: usize| n % 8 == 0 && (8..=256).contains(&n);
+    match *ty {
+        PrimitiveEVMType::Address => [1, 0],
+        PrimitiveEVMType::Bool => [2, 0],
+        PrimitiveEVMType::String => [3, 0],
+        PrimitiveEVMType::DynBytes => [4, 0],
+        PrimitiveEVMType::Uint(n) if is_bits(n) => [5, n as u32],
+        PrimitiveEVMType::Int(n) if is_bits(n) => [6, n as u32],
+        PrimitiveEVMType::Bytes(n) if (1..=32).contains(&n) => [7, n as u32],
+        _ => NO_TYPE,
     }
 }
 

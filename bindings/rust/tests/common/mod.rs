@@ -2,7 +2,8 @@
 
 #![allow(dead_code)]
 
-use simmerotter::{push_token, raw, Edition, Kind, Mode, Options, Room, TOKEN_WORDS};
+use simmerotter::raw::{self, Answer};
+use simmerotter::{push_token, Edition, Kind, Mode, Options, Refused, Room, TOKEN_WORDS};
 use std::fs;
 use std::path::Path;
 
@@ -21,7 +22,7 @@ pub struct Case {
     pub start: usize,
     pub text: Vec<u8>,
     pub tokens: Vec<u32>,
-    pub answer: [u64; 5],
+    pub answer: Answer,
     pub wanted: Lists,
 }
 
@@ -51,18 +52,18 @@ impl Lists {
         [self.kept.len(), self.definitions.len(), self.statements.len(), self.arguments.len()]
     }
 
-    pub fn read_file(&mut self, mode: u32, text: &[u8], tokens: &[u32]) -> [u64; 5] {
+    pub fn read_file(&mut self, mode: u32, text: &[u8], tokens: &[u32]) -> Answer {
         let Lists { kept, definitions, statements, arguments } = self;
         raw::read_file(mode, text, tokens, kept, definitions, statements, arguments)
     }
 
-    pub fn read_body(&mut self, mode: u32, edition: u32, text: &[u8], tokens: &[u32], start: usize) -> [u64; 5] {
+    pub fn read_body(&mut self, mode: u32, edition: u32, text: &[u8], tokens: &[u32], start: usize) -> Answer {
         raw::read_body(mode, edition, text, tokens, start, &mut self.kept, &mut self.statements, &mut self.arguments)
     }
 }
 
 /// What a call left: its answer and the lent lists.
-pub type Left = ([u64; 5], Lists);
+pub type Left = (Answer, Lists);
 
 impl Case {
     /// The setting that has the case's numbers, if there is one: rooms read by no others. A file goes with either edition.
@@ -95,6 +96,17 @@ impl Case {
         };
         (answer, lists)
     }
+}
+
+/// The answer of a refusal that tells no type.
+pub fn refusal(number: u64, cursor: u64) -> Answer {
+    [number, cursor, 0, 0, 0, 0, 0]
+}
+
+/// The answer that a room's refusal was made of.
+pub fn answer_of(refused: Refused) -> Answer {
+    let [kind, size] = refused.reserved_type.map_or([0, 0], |one| [u64::from(one.number()), u64::from(one.size())]);
+    [u64::from(refused.refusal.number()), refused.cursor as u64, 0, 0, 0, kind, size]
 }
 
 /// What a room can be told.
@@ -154,7 +166,7 @@ fn case(line: usize, section: &str, fields: &str, answer: &str) -> Case {
     let fields: Vec<&str> = fields.split(' ').collect();
     let parts: Vec<&str> = answer.split('|').collect();
     assert_eq!((fields.len(), parts.len()), (10, 5), "fields and parts of line {}", line);
-    let five: Vec<u64> = parts[0].split(' ').map(|number| u64::from(word(number))).collect();
+    let numbers: Vec<u64> = parts[0].split(' ').map(|number| u64::from(word(number))).collect();
     let [kept, definitions, statements, arguments] = [1, 2, 3, 4].map(|part| words(parts[part]));
     let wanted = Lists { kept, definitions, statements, arguments };
     assert_eq!([4, 5, 6, 7].map(|field| size(fields[field])), wanted.lengths(), "lengths of line {}", line);
@@ -167,7 +179,7 @@ fn case(line: usize, section: &str, fields: &str, answer: &str) -> Case {
         start: size(fields[3]),
         text: bytes(fields[8]),
         tokens: words(fields[9]),
-        answer: five.try_into().expect("five numbers"),
+        answer: numbers.try_into().expect("seven numbers"),
         wanted,
     }
 }

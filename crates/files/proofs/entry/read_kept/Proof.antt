@@ -1,6 +1,6 @@
--- `read_kept`: each way out has its law. Assumes nothing.
 use mathlib.Core.Bool.{true}
 use mathlib.Core.List.{[]}
+use mathlib.Core.Path.{sym}
 use borrow.Author.Needs.{needs}
 use Rattle.tokens.specs.Token.{view}
 use Rattle.grammar.specs.FileReader.{parse, fileAt}
@@ -10,6 +10,8 @@ use Rattle.files.proofs.EntryLaws.{taken-32, taken-33, taken-34, taken-
 use Rattle.files.proofs.entry.read_kept.Statement.{statement}
 use Rattle.files.proofs.entry.read_kept.Tie as tie
 
+-- `read_kept`: each way out has its law. Assumes nothing.
+
 read-definitions-requires : tie.Need-read-definitions-requires
 read-definitions-requires c κs = search needs
 
@@ -18,6 +20,9 @@ enum-known-c c = search needs
 
 clear-all-requires : tie.Need-clear-all-requires
 clear-all-requires c κs = search needs
+
+type-told-requires : tie.Need-type-told-requires
+type-told-requires c κs = search needs
 
 enum-known-p : tie.Need-enum-known-p
 enum-known-p c = search needs
@@ -41,7 +46,7 @@ returns c =
     let f = c .before .before .before .before .before .before .before .before .before .before .before .before .before .before .before .before .before .before .before .before .read-definitions in
     let z = c .before .before .before .before .before .before .clear-all2 in
     let q = c .before .before .before .before .before .before .before .before .before .before .before .before .p .given in
-    taken-32 (a .definitions .now) (a .statements .now) (a .arguments .now)
+    taken-32 (view (a .text .now) (a .tokens .now) (a .kept .now)) (a .definitions .now) (a .statements .now) (a .arguments .now)
     (f .last .1 .1 .1 .1 .0) (f .last .1 .1 .1 .1 .1 .0) (f .last .1 .1 .1 .1 .1 .1 .0) (f .kept .1 .1 .1 .1 .0) (f .kept .1 .1 .1 .1 .1 .0) (f .kept .1 .1 .1 .1 .1 .1 .0)
     (z .last .0) (z .last .1 .0) (z .last .1 .1 .0) (z .ensures)
     (parse (asks (a .strict)) true [] 0 (view (a .text .now) (a .tokens .now) (a .kept .now))) (q .0 .0) (q .0 .1 .0) (q .0 .1 .1 .0) (q .0 .1 .1 .1 .0) (f .result) (f .ensures) (q .1) (c .before .before .before .before .before .before .before .before .before .before .if1 .taken)
@@ -65,7 +70,7 @@ returns-2 c =
     let f = c .before .before .before .before .before .before .before .before .before .before .before .before .before .before .before .before .before .before .before .before .before .read-definitions in
     let z = c .before .before .before .before .before .before .clear-all3 in
     let q = c .before .before .before .before .before .before .before .before .before .before .before .before .before .p .given in
-    taken-33 (a .definitions .now) (a .statements .now) (a .arguments .now)
+    taken-33 (view (a .text .now) (a .tokens .now) (a .kept .now)) (a .definitions .now) (a .statements .now) (a .arguments .now)
     (f .last .1 .1 .1 .1 .0) (f .last .1 .1 .1 .1 .1 .0) (f .last .1 .1 .1 .1 .1 .1 .0) (f .kept .1 .1 .1 .1 .0) (f .kept .1 .1 .1 .1 .1 .0) (f .kept .1 .1 .1 .1 .1 .1 .0)
     (z .last .0) (z .last .1 .0) (z .last .1 .1 .0) (z .ensures)
     (parse (asks (a .strict)) true [] 0 (view (a .text .now) (a .tokens .now) (a .kept .now))) (q .0 .0) (q .0 .1 .0) (q .0 .1 .1 .0) (q .0 .1 .1 .1 .0) (f .result) (f .ensures) (q .1) (c .before .before .before .before .before .before .before .before .before .before .before .if1 .left) (c .before .before .before .before .before .before .before .before .before .before .if2 .taken)
@@ -89,7 +94,7 @@ returns-3 c =
     let f = c .before .before .before .before .before .before .before .before .before .before .before .before .before .before .before .before .before .before .before .before .before .before .read-definitions in
     let z = c .before .before .before .before .before .before .clear-all4 in
     let q = c .before .before .before .before .before .before .before .before .before .before .before .before .before .before .p .given in
-    taken-34 (a .definitions .now) (a .statements .now) (a .arguments .now)
+    taken-34 (view (a .text .now) (a .tokens .now) (a .kept .now)) (a .definitions .now) (a .statements .now) (a .arguments .now)
     (f .last .1 .1 .1 .1 .0) (f .last .1 .1 .1 .1 .1 .0) (f .last .1 .1 .1 .1 .1 .1 .0) (f .kept .1 .1 .1 .1 .0) (f .kept .1 .1 .1 .1 .1 .0) (f .kept .1 .1 .1 .1 .1 .1 .0)
     (z .last .0) (z .last .1 .0) (z .last .1 .1 .0) (z .ensures)
     (parse (asks (a .strict)) true [] 0 (view (a .text .now) (a .tokens .now) (a .kept .now))) (q .0 .0) (q .0 .1 .0) (q .0 .1 .1 .0) (q .0 .1 .1 .1 .0) (f .result) (f .ensures) (q .1) (c .before .before .before .before .before .before .before .before .before .before .before .before .if1 .left) (c .before .before .before .before .before .before .before .before .before .before .before .if2 .left) (c .before .before .before .before .before .before .before .before .before .before .if3 .taken)
@@ -109,14 +114,14 @@ same-length-12 c = search needs
 returns-4 : tie.Need-returns-4
 unfolding fileAt
 returns-4 c =
-    let a = c .before .before .before .before .before .before .before .before .before .before .before .before .before .before .before .before .before .before .before .before .before .before .before .before .before .before .before .before .before .args in
-    let f = c .before .before .before .before .before .before .before .before .before .before .before .before .before .before .before .before .before .before .before .read-definitions in
-    let z = c .before .before .before .before .before .before .clear-all in
-    let q = c .before .before .before .before .before .before .before .before .before .before .before .c .given in
-    taken-refused (a .definitions .now) (a .statements .now) (a .arguments .now)
+    let a = c .before .before .before .before .before .before .before .before .before .before .before .before .before .before .before .before .before .before .before .before .before .before .before .before .before .before .before .before .before .before .args in
+    let f = c .before .before .before .before .before .before .before .before .before .before .before .before .before .before .before .before .before .before .before .before .read-definitions in
+    let z = c .before .before .before .before .before .before .before .clear-all in
+    let q = c .before .before .before .before .before .before .before .before .before .before .before .before .c .given in
+    taken-refused (view (a .text .now) (a .tokens .now) (a .kept .now)) (a .definitions .now) (a .statements .now) (a .arguments .now)
     (f .last .1 .1 .1 .1 .0) (f .last .1 .1 .1 .1 .1 .0) (f .last .1 .1 .1 .1 .1 .1 .0) (f .kept .1 .1 .1 .1 .0) (f .kept .1 .1 .1 .1 .1 .0) (f .kept .1 .1 .1 .1 .1 .1 .0)
     (z .last .0) (z .last .1 .0) (z .last .1 .1 .0) (z .ensures)
-    (parse (asks (a .strict)) true [] 0 (view (a .text .now) (a .tokens .now) (a .kept .now))) (q .0 .0) (q .0 .1 .0) (f .result) (f .ensures) (q .1)
+    (parse (asks (a .strict)) true [] 0 (view (a .text .now) (a .tokens .now) (a .kept .now))) (q .0 .0) (q .0 .1 .0) (c .type-told .result .ty) (c .type-told .result .size) (f .result) (f .ensures) (q .1) (sym (c .type-told .ensures))
     (file-ours (asks (a .strict)) true (view (a .text .now) (a .tokens .now) (a .kept .now)) (q .0 .0) (q .0 .1 .0))
 
 same-length-13 : tie.Need-same-length-13
@@ -135,7 +140,7 @@ returns-5 c =
     let f = c .before .before .before .before .before .before .before .before .before .before .before .before .before .before .before .before .before .before .before .before .before .before .read-definitions in
     let z = c .before .before .before .before .before .before .clear-rest in
     let q = c .before .before .before .before .before .before .before .before .before .before .before .before .before .before .p .given in
-    taken-read (a .definitions .now) (a .statements .now) (a .arguments .now)
+    taken-read (view (a .text .now) (a .tokens .now) (a .kept .now)) (a .definitions .now) (a .statements .now) (a .arguments .now)
     (f .last .1 .1 .1 .1 .0) (f .last .1 .1 .1 .1 .1 .0) (f .last .1 .1 .1 .1 .1 .1 .0) (f .kept .1 .1 .1 .1 .0) (f .kept .1 .1 .1 .1 .1 .0) (f .kept .1 .1 .1 .1 .1 .1 .0)
     (z .last .0) (z .last .1 .1 .0) (z .last .1 .1 .1 .1 .0)
     (parse (asks (a .strict)) true [] 0 (view (a .text .now) (a .tokens .now) (a .kept .now))) (q .0 .0) (q .0 .1 .0) (q .0 .1 .1 .0) (q .0 .1 .1 .1 .0) (f .result) (f .ensures) (q .1) (c .before .before .before .before .before .before .before .before .before .before .before .before .if1 .left) (c .before .before .before .before .before .before .before .before .before .before .before .if2 .left) (c .before .before .before .before .before .before .before .before .before .before .if3 .left) (z .ensures)
@@ -147,6 +152,7 @@ read-kept-spec =
     read-definitions-requires
     enum-known-c
     clear-all-requires
+    type-told-requires
     enum-known-p
     clear-all-requires-2
     same-length

@@ -35,20 +35,20 @@ refusal-requires-5 c κs = search needs
 enum-known-answer-4 : tie.Need-enum-known-answer-4
 enum-known-answer-4 c = search needs
 
-refusal-requires-6 : tie.Need-refusal-requires-6
-refusal-requires-6 c κs = search needs
+refusal-of-requires : tie.Need-refusal-of-requires
+refusal-of-requires c κs = search needs
 
 enum-known-answer-5 : tie.Need-enum-known-answer-5
 enum-known-answer-5 c = search needs
 
-refusal-requires-7 : tie.Need-refusal-requires-7
-refusal-requires-7 c κs = search needs
+refusal-requires-6 : tie.Need-refusal-requires-6
+refusal-requires-6 c κs = search needs
 
 enum-known-answer-6 : tie.Need-enum-known-answer-6
 enum-known-answer-6 c = search needs
 
-refusal-requires-8 : tie.Need-refusal-requires-8
-refusal-requires-8 c κs = search needs
+refusal-requires-7 : tie.Need-refusal-requires-7
+refusal-requires-7 c κs = search needs
 
 enum-known-answer-7 : tie.Need-enum-known-answer-7
 enum-known-answer-7 c = search needs
@@ -72,13 +72,13 @@ returns-5 : tie.Need-returns-5
 returns-5 c = rw (c .before .before .answer3 .given .1) (c .refusal5 .ensures)
 
 returns-6 : tie.Need-returns-6
-returns-6 c = rw (c .before .before .answer4 .given .1) (c .refusal6 .ensures)
+returns-6 c = rw (c .before .before .answer4 .given .1) (c .refusal-of .ensures)
 
 returns-7 : tie.Need-returns-7
-returns-7 c = rw (c .before .before .answer5 .given .1) (c .refusal7 .ensures)
+returns-7 c = rw (c .before .before .answer5 .given .1) (c .refusal6 .ensures)
 
 returns-8 : tie.Need-returns-8
-returns-8 c = rw (c .before .before .answer6 .given .1) (c .refusal8 .ensures)
+returns-8 c = rw (c .before .before .answer6 .given .1) (c .refusal7 .ensures)
 
 returns-9 : tie.Need-returns-9
 returns-9 c = rw (c .before .before .answer7 .given .1) (c .accepted .ensures)
@@ -98,11 +98,11 @@ body-values-spec =
     enum-known-answer-3
     refusal-requires-5
     enum-known-answer-4
-    refusal-requires-6
+    refusal-of-requires
     enum-known-answer-5
-    refusal-requires-7
+    refusal-requires-6
     enum-known-answer-6
-    refusal-requires-8
+    refusal-requires-7
     enum-known-answer-7
     accepted-requires
     returns

@@ -1,4 +1,4 @@
-use mathlib.Core.Path.{refl}
+use mathlib.Core.Path.{refl, sym}
 use borrow.Author.Tests.{lt-ltb, le-ltb}
 use borrow.Author.Needs.{needs}
 use Rattle.tokens.proofs.LentLaws.{cleared-none}
@@ -10,6 +10,9 @@ enum-known-read c = search needs
 
 clear-both-requires : tie.Need-clear-both-requires
 clear-both-requires c κs = search needs
+
+type-told-requires : tie.Need-type-told-requires
+type-told-requires c κs = search needs
 
 enum-known-read-2 : tie.Need-enum-known-read-2
 enum-known-read-2 c = search needs
@@ -54,7 +57,7 @@ same-length-6 : tie.Need-same-length-6
 same-length-6 c = search needs
 
 returns-3 : tie.Need-returns-3
-returns-3 c = rw (c .before .before .before .before .before .before .before .before .read .given .1) (record { answer = refl; statementsHold = rw cleared-none (c .before .before .before .before .clear-both .ensures .0); argumentsHold = rw cleared-none (c .before .before .before .before .clear-both .ensures .1) })
+returns-3 c = rw (c .before .before .before .before .before .before .before .before .before .read .given .1) (record { answer = rw (sym (c .type-told .ensures)); statementsHold = rw cleared-none (c .before .before .before .before .before .clear-both .ensures .0); argumentsHold = rw cleared-none (c .before .before .before .before .before .clear-both .ensures .1) })
 
 same-length-7 : tie.Need-same-length-7
 same-length-7 c = search needs
@@ -71,6 +74,7 @@ settle-spec =
     (tie.spec
     enum-known-read
     clear-both-requires
+    type-told-requires
     enum-known-read-2
     clear-both-requires-2
     same-length
