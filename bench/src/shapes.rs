@@ -224,6 +224,26 @@ fn mixed(tokens: usize) -> List {
     list.eof()
 }
 
+/// Names of arguments, some of which begin as a type's does.
+const ARGUMENTS: [&str; 10] = ["amount", "recipient", "id", "owner", "value", "bytesPaid", "uints", "i", "internal", "stringAt"];
+
+/// Errors of four arguments each, all of whose names are tested.
+fn errors(tokens: usize) -> List {
+    let mut list = List::new(false);
+    let mut names = ARGUMENTS.iter().cycle();
+    let mut i = 0;
+    while list.tokens() + 17 <= tokens {
+        list.put(DEFINE, "#define", 0).put(ERROR, "error", 0).name(&format!("NotDue_{i}"));
+        for (argument, own) in names.by_ref().take(4).enumerate() {
+            let (kind, sign) = if argument == 0 { (OPEN_PAREN, "(") } else { (COMMA, ",") };
+            list.put(kind, sign, 0).put(PRIMITIVE_TYPE, "uint256", 0).name(own);
+        }
+        list.put(CLOSE_PAREN, ")", 0);
+        i += 1;
+    }
+    list.eof()
+}
+
 /// Code tables with eight entries each.
 fn code_tables(tokens: usize) -> List {
     let mut list = List::new(false);
@@ -294,7 +314,7 @@ pub fn names(count: usize, front: &str) -> List {
 pub type Shape = (&'static str, fn(usize) -> List);
 
 /// All shapes, in the order in which they are measured.
-pub const SHAPES: [Shape; 9] = [
+pub const SHAPES: [Shape; 10] = [
     ("many macros", many_macros),
     ("one long body", long_body),
     BODY_CALL,
@@ -304,6 +324,7 @@ pub const SHAPES: [Shape; 9] = [
     ("half white space", half_white_space),
     LABELLED[0],
     LABELLED[1],
+    ("errors of four arguments", errors),
 ];
 
 const BODY_CALL: Shape = ("a body call", body_call);
