@@ -342,9 +342,32 @@ look-four : (a b c d : List ListedType) (name : List ℕ) → Typed a → Typed 
 look-four a b c d name first second third = rw (look-on a (b ++ (c ++ d)) name first, look-on b (c ++ d) name second, look-on c d name third)
 
 -- the four parts of the list, in its order
-pub type-parts : (name : List ℕ) → typeOf name
+type-parts : (name : List ℕ) → typeOf name
     ≡ cond (eqb (lookUp bareTypes name .0) typeNone)
     (cond (eqb (lookUp uintTypes name .0) typeNone) (cond (eqb (lookUp intTypes name .0) typeNone) (lookUp bytesTypes name) (lookUp intTypes name)) (lookUp uintTypes name))
     (lookUp bareTypes name)
 unfolding typeOf typeNames
 type-parts name = look-four bareTypes uintTypes intTypes bytesTypes name bare-typed uint-typed int-typed
+
+-- what the parts that were looked through answered, and the type by it
+module _ (name : List ℕ) (t s : ℕ) (bare : _≡_ {A = ℕ × ℕ} (t, s) (lookUp bareTypes name)) where
+  pub type-bare : (t ≡ typeNone → ⊥) → _≡_ {A = ℕ × ℕ} (t, s) (typeOf name)
+  type-bare some = rw (type-parts, sym bare, ne-eqb t typeNone some)
+
+  module _ (not-bare : t ≡ typeNone) (u : ℕ) (uint : SizeIn (bytes "uint") (multiples bitsStep (widestBits / bitsStep)) name u) where
+    pub type-uint : (u ≡ 0 → ⊥) → _≡_ {A = ℕ × ℕ} (typeUint, u) (typeOf name)
+    type-uint some = rw (type-parts, sym bare, eq-eqb t typeNone not-bare, uint typeUint, ne-eqb u 0 some)
+
+    module _ (no-uint : u ≡ 0) (i : ℕ) (int : SizeIn (bytes "int") (multiples bitsStep (widestBits / bitsStep)) name i) where
+      past-uint : typeOf name ≡ cond (eqb (lookUp intTypes name .0) typeNone) (lookUp bytesTypes name) (lookUp intTypes name)
+      past-uint = rw (type-parts, sym bare, eq-eqb t typeNone not-bare, uint typeUint, eq-eqb u 0 no-uint)
+
+      pub type-int : (i ≡ 0 → ⊥) → _≡_ {A = ℕ × ℕ} (typeInt, i) (typeOf name)
+      type-int some = rw (past-uint, int typeInt, ne-eqb i 0 some)
+
+      module _ (no-int : i ≡ 0) (b : ℕ) (sized-bytes : SizeIn (bytes "bytes") (multiples 1 widestBytes) name b) where
+        pub type-bytes : (b ≡ 0 → ⊥) → _≡_ {A = ℕ × ℕ} (typeBytesN, b) (typeOf name)
+        type-bytes some = rw (past-uint, int typeInt, eq-eqb i 0 no-int, sized-bytes typeBytesN, ne-eqb b 0 some)
+
+        pub type-none : b ≡ 0 → _≡_ {A = ℕ × ℕ} (typeNone, 0) (typeOf name)
+        type-none none = rw (past-uint, int typeInt, eq-eqb i 0 no-int, sized-bytes typeBytesN, eq-eqb b 0 none)

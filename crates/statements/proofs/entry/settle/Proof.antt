@@ -1,7 +1,9 @@
-use mathlib.Core.Path.{refl, sym}
+use Prim.Native.Nat.{ℕ}
+use mathlib.Core.Path.{ap}
 use borrow.Author.Tests.{lt-ltb, le-ltb}
 use borrow.Author.Needs.{needs}
 use Rattle.tokens.proofs.LentLaws.{cleared-none}
+use Rattle.statements.specs.declared.entry.Body.the-variants.{Refused}
 use Rattle.statements.proofs.entry.settle.Statement.{statement}
 use Rattle.statements.proofs.entry.settle.Tie as tie
 
@@ -57,7 +59,7 @@ same-length-6 : tie.Need-same-length-6
 same-length-6 c = search needs
 
 returns-3 : tie.Need-returns-3
-returns-3 c = rw (c .before .before .before .before .before .before .before .before .before .read .given .1) (record { answer = rw (sym (c .type-told .ensures)); statementsHold = rw cleared-none (c .before .before .before .before .before .clear-both .ensures .0); argumentsHold = rw cleared-none (c .before .before .before .before .before .clear-both .ensures .1) })
+returns-3 c = rw (c .before .before .before .before .before .before .before .before .before .read .given .1) (record { answer = ap (λ (x : ℕ × ℕ). Refused (c .before .before .before .before .before .before .before .before .before .read .given .0 .0) (c .before .before .before .before .before .before .before .before .before .read .given .0 .1 .0) (x .0) (x .1)) (c .type-told .ensures); statementsHold = rw cleared-none (c .before .before .before .before .before .clear-both .ensures .0); argumentsHold = rw cleared-none (c .before .before .before .before .before .clear-both .ensures .1) })
 
 same-length-7 : tie.Need-same-length-7
 same-length-7 c = search needs

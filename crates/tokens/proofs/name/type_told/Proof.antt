@@ -1,6 +1,7 @@
 use mathlib.Core.Path.{sym, _∙_, ap}
 use borrow.Author.Needs.{needs}
 use borrow.Author.Tests.{eq-eqb, ne-eqb}
+use Rattle.tokens.specs.Number.{InvalidTypeAsArgumentName}
 use Rattle.tokens.specs.Name.{typeOf, typeTold}
 use Rattle.tokens.proofs.TokenLaws.{view-text}
 use Rattle.tokens.proofs.name.type_told.Statement.{statement}
@@ -14,11 +15,11 @@ type-of-requires c κs = search needs
 
 returns : tie.Need-returns
 unfolding typeTold
-returns c = rw (eq-eqb _ _ (c .before .before .if1 .taken)) (c .type-of .ensures ∙ ap typeOf (c .before .text-at .ensures ∙ sym (view-text _ _ _ _)))
+returns c = rw (eq-eqb _ InvalidTypeAsArgumentName (c .before .before .if1 .taken)) (c .type-of .ensures ∙ ap typeOf (c .before .text-at .ensures ∙ sym (view-text _ _ _ _)))
 
 returns-2 : tie.Need-returns-2
 unfolding typeTold
-returns-2 c = rw (ne-eqb _ _ (c .if1 .left))
+returns-2 c = rw (ne-eqb _ InvalidTypeAsArgumentName (c .if1 .left))
 
 pub type-told-spec : {M : Type 1} → statement M
 type-told-spec = tie.close (tie.spec text-at-requires type-of-requires returns returns-2)
