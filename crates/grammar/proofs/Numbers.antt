@@ -61,4 +61,4 @@ module _ (kept : List Token) where
 
   pub tells-at : (c q : ℕ) → TellsType kept (refusalAt kept c q)
   unfolding typeTold
-  tells-at c q = record { for7 = λ e. rw (eq-eqb c 7 e); otherwise = λ n. rw (ne-eqb c 7 n) (refl, refl) }
+  tells-at c q = record { for7 = λ e. rw (eq-eqb c InvalidTypeAsArgumentName e); otherwise = λ n. rw (ne-eqb c InvalidTypeAsArgumentName n) (refl, refl) }
