@@ -9,6 +9,7 @@ use mathlib.Core.List.{List, [], _∷_, _++_, map, append-nil, map-append}
 use borrow.Author.Tests.{eq-eqb, ne-eqb}
 use lib.ListN.{length, drop, length-append, length-map}
 use Rattle.tokens.specs.Token.{Token, tokenAt}
+use Rattle.tokens.specs.Place.{Positions}
 use Rattle.tokens.specs.Number.{definitionWidth, argumentWidth, importDefinition}
 use Rattle.tokens.specs.Lent.{put, putAll}
 use Rattle.tokens.specs.Kind.{Include, Define, Constant, Returns, View, Pure, Payable, NonPayable, Assign, FreeStoragePointer, Ident, Literal, Str}
@@ -506,11 +507,11 @@ module _ (all : List Token) (p : ℕ) where
 -- ---- its record
 
 -- the words of its record are those that the grammar says
-record-is : (i a : ℕ) (d : Definition) → definitionWords (codeDefinition i a d) ≡ definitionRecord i a d
+record-is : (pos : Positions) (i a : ℕ) (d : Definition) → definitionWords (codeDefinition i a d) (pos .start (d .first)) (pos .end (d .end - 1)) ≡ definitionRecord pos i a d
 unfolding definitionRecord
-record-is i a d = go (d .form) refl
+record-is pos i a d = go (d .form) refl
   where
-    go : (f : Form) → d .form ≡ f → definitionWords (codeDefinition i a d) ≡ definitionRecord i a d
+    go : (f : Form) → d .form ≡ f → definitionWords (codeDefinition i a d) (pos .start (d .first)) (pos .end (d .end - 1)) ≡ definitionRecord pos i a d
     go anImport e = rw e
     go (aFunction inputs type outputs) e = rw e
     go (anEvent args) e = rw e
@@ -520,21 +521,27 @@ record-is i a d = go (d .form) refl
     go (aMacro sort args takes returns r) e = rw e
     go (aTable sort es) e = rw e
 
-module _ {all : List Token} {p i a size : ℕ} {read : Res Definition} {de st ar de′ st′ ar′ : List ℕ} where
-  -- it was read, and its record is the first of the lent rest
-  pub added : (d : code.Definition) {n : ℕ} → DefParsed 8 all p i a size read st ar (defs.Done d n) st′ ar′ → de′ ≡ put definitionWidth de 0 (definitionWords d)
-      → DefAdded all p i a size read 0 0 0 de st ar (defs.Done d n) de′ st′ ar′
+module _ {all : List Token} {pos : Positions} {p i a size : ℕ} {read : Res Definition} {de st ar de′ st′ ar′ : List ℕ} where
+  -- it was read, and its record, with the bytes of its first and last token, is the first of the lent rest
+  pub added : (d : code.Definition) {n start end : ℕ} → DefParsed 8 all p i a size read st ar (defs.Done d n) st′ ar′
+      → start ≡ pos .start (d .first) → end ≡ pos .end (d .end - 1) → de′ ≡ put definitionWidth de 0 (definitionWords d start end)
+      → DefAdded all pos p i a size read 0 0 0 de st ar (defs.Done d n) de′ st′ ar′
   unfolding putAll
-  added d {n} h written = go read refl
+  added d {n} {end = end} h starts ends written = go read refl
     where
-      go : (x : Res Definition) → read ≡ x → DefAdded all p i a size read 0 0 0 de st ar (defs.Done d n) de′ st′ ar′
+      go : (x : Res Definition) → read ≡ x → DefAdded all pos p i a size read 0 0 0 de st ar (defs.Done d n) de′ st′ ar′
       go (got x k) e =
           let h′ = rw e at h in
           let same : d ≡ codeDefinition i a x = cc (h′ .is) in
           rw e
           (record {
             is = h′ .is;
-            definitionsHold = written ∙ ap (λ (y : code.Definition). put definitionWidth de 0 (definitionWords y)) same ∙ ap (put definitionWidth de 0) (record-is i a x);
+            definitionsHold =
+                written
+                ∙ ap (λ (s : ℕ). put definitionWidth de 0 (definitionWords d s end)) starts
+                ∙ ap (λ (e : ℕ). put definitionWidth de 0 (definitionWords d (pos .start (d .first)) e)) ends
+                ∙ ap (λ (y : code.Definition). put definitionWidth de 0 (definitionWords y (pos .start (y .first)) (pos .end (y .end - 1)))) same
+                ∙ ap (put definitionWidth de 0) (record-is pos i a x);
             statementsHold = h′ .statementsHold;
             argumentsHold = h′ .argumentsHold;
             stands = h′ .stands;
@@ -542,10 +549,10 @@ module _ {all : List Token} {p i a size : ℕ} {read : Res Definition} {de st ar
           })
       go (bad y w) e = absurd (let h′ = rw e at h in let z : _≡_ {A = ℕ} 0 1 = cc (h′ .is) in omega arith)
 
-  pub added-refused : {c q : ℕ} → DefParsed 8 all p i a size read st ar (defs.Refused c q) st′ ar′ → DefAdded all p i a size read 0 0 0 de st ar (defs.Refused c q) de′ st′ ar′
+  pub added-refused : {c q : ℕ} → DefParsed 8 all p i a size read st ar (defs.Refused c q) st′ ar′ → DefAdded all pos p i a size read 0 0 0 de st ar (defs.Refused c q) de′ st′ ar′
   added-refused {c} {q} h = go read refl
     where
-      go : (x : Res Definition) → read ≡ x → DefAdded all p i a size read 0 0 0 de st ar (defs.Refused c q) de′ st′ ar′
+      go : (x : Res Definition) → read ≡ x → DefAdded all pos p i a size read 0 0 0 de st ar (defs.Refused c q) de′ st′ ar′
       go (got x k) e = absurd (let h′ = rw e at h in let z : _≡_ {A = ℕ} 0 1 = cc (h′ .is) in omega arith)
       go (bad y w) e =
           let h′ = rw e at h in

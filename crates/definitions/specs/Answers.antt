@@ -7,7 +7,7 @@ use lib.ListN.{length, getD}
 use lib.Dec.{leb}
 use Rattle.tokens.specs.Number.{definitionWidth, statementWidth, argumentWidth, mostTokens}
 use Rattle.tokens.specs.Token.{Token, tokenAt}
-use Rattle.tokens.specs.Place.{FromDoor}
+use Rattle.tokens.specs.Place.{FromDoor, Positions}
 use Rattle.grammar.specs.Result.{number, beyond, Res, got, bad}
 use Rattle.grammar.specs.Written.{Written}
 use Rattle.grammar.specs.Records.{argumentRecord}
@@ -28,10 +28,10 @@ pub record Reading (words kept : List ℕ) (first p i a : ℕ) : Type 0 where
 
 -- ---- a definition
 
--- the words of its record
-abbrev pub definitionWords : code.Definition → List ℕ
-definitionWords d =
-    d .kind ∷ d .name ∷ d .first ∷ d .end ∷ d .argument ∷ d .arguments ∷ d .output ∷ d .outputs ∷ d .statement ∷ d .statements ∷ d .a ∷ d .b ∷ []
+-- the words of its record, where its tokens take these bytes of the text
+abbrev pub definitionWords : code.Definition → ℕ → ℕ → List ℕ
+definitionWords d start end =
+    d .kind ∷ d .name ∷ d .first ∷ d .end ∷ d .argument ∷ d .arguments ∷ d .output ∷ d .outputs ∷ d .statement ∷ d .statements ∷ d .a ∷ d .b ∷ start ∷ end ∷ []
 
 -- the code's definition for the grammar's, behind i statement and a argument records
 abbrev pub codeDefinition : ℕ → ℕ → Definition → code.Definition
@@ -94,9 +94,9 @@ pub record DefParsed (least : ℕ) (all : List Token) (p i a size : ℕ) (read :
   pub within : DefWithin least p size r
 
 -- the same with its own record: written from number d, m and n of the lent tables on
-pub record DefAdded (all : List Token) (p i a size : ℕ) (read : Res Definition) (d m n : ℕ) (de st ar : List ℕ) (r : DefRead) (de′ st′ ar′ : List ℕ) : Type 0 where
+pub record DefAdded (all : List Token) (pos : Positions) (p i a size : ℕ) (read : Res Definition) (d m n : ℕ) (de st ar : List ℕ) (r : DefRead) (de′ st′ ar′ : List ℕ) : Type 0 where
   pub is : r ≡ defAnswer i a read
-  pub definitionsHold : Written definitionWidth (λ x. definitionRecord i a x ∷ []) read d de de′
+  pub definitionsHold : Written definitionWidth (λ x. definitionRecord pos i a x ∷ []) read d de de′
   pub statementsHold : Written statementWidth (ownStatements i a) read m st st′
   pub argumentsHold : Written argumentWidth ownArguments read n ar ar′
   pub stands : Stands all p read

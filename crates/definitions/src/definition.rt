@@ -15,15 +15,17 @@ use crate::signature::Signature;
 use crate::signature::function_behind;
 use crate::signature::list_behind;
 use crate::table::parse_table;
+use tokens::end_at;
 use tokens::kind;
 use tokens::kind_at;
 use tokens::number;
+use tokens::start_at;
 ghost use Prim.Native.Nat.{ℕ};
 ghost use mathlib.Core.Path.{_≡_};
 ghost use mathlib.Core.List.{List};
 ghost use lib.ListN.{length};
 ghost use Rattle.tokens.specs.Token.{view};
-ghost use Rattle.tokens.specs.Place.{tokensFrom};
+ghost use Rattle.tokens.specs.Place.{tokensFrom, positions};
 ghost use Rattle.tokens.specs.Number.{UnexpectedType, InvalidDefinition};
 ghost use Rattle.grammar.specs.Result.{plain, expect};
 ghost use Rattle.grammar.specs.Rules.{asks};
@@ -253,7 +255,7 @@ fn top_level(
     }
 }
 
-// A definition into the rest of each table that is still free: its record is the first of its rest.
+// A definition into the rest of each table that is still free: its record is the first of its rest. Where its tokens stand in the text is asked only here.
 pub fn read_definition(
     text: &[u8],
     tokens: &[u32],
@@ -267,7 +269,7 @@ pub fn read_definition(
     a: usize,
 ) -> DefRead
     requires { ⌜ Reading (now tokens) (now kept) p p i a ⌝ }
-    ensures { λ r. ⌜ DefAdded (view (now (text .entry)) (now (tokens .entry)) (now (kept .entry))) p i a (length (now (kept .entry)))
+    ensures { λ r. ⌜ DefAdded (view (now (text .entry)) (now (tokens .entry)) (now (kept .entry))) (positions (now (tokens .entry)) (now (kept .entry))) p i a (length (now (kept .entry)))
         (topLevel (asks strict) p (tokensFrom (now (text .entry)) (now (tokens .entry)) (now (kept .entry)) p)) 0 0 0
         (now (definitions .entry)) (now (statements .entry)) (now (arguments .entry)) r
         (now (definitions .exit)) (now (statements .exit)) (now (arguments .exit)) ⌝ }
@@ -275,7 +277,9 @@ pub fn read_definition(
     match top_level(text, tokens, kept, strict, p, statements, arguments, i, a) {
         DefRead::Refused(c, q) => DefRead::Refused(c, q),
         DefRead::Done(d, n) => {
-            put_definition(definitions, 0, d);
+            let start = start_at(tokens, kept, d.first as usize);
+            let end = end_at(tokens, kept, d.end as usize - 1);
+            put_definition(definitions, 0, d, start, end);
             DefRead::Done(d, n)
         }
     }

@@ -6,7 +6,7 @@ ghost use Rattle.tokens.specs.Number.{definitionWidth};
 ghost use Rattle.tokens.specs.Lent.{put};
 ghost use Rattle.definitions.specs.Answers.{definitionWords, isNamed};
 
-// A definition's twelve words.
+// A definition's words but the last two, which say where it stands in the text: no reader looks there.
 pub struct Definition {
     pub kind: u32,
     pub name: u32,
@@ -28,9 +28,9 @@ pub enum DefRead {
     Refused(u32, usize),
 }
 
-// Definition record number n.
-pub fn put_definition(definitions: &mut [u32], n: usize, d: Definition)
-    ensures { λ _. ⌜ now (definitions .exit) ≡ put definitionWidth (now (definitions .entry)) n (definitionWords d) ⌝ }
+// Definition record number n, of a definition whose tokens take the bytes of the text from start up to end.
+pub fn put_definition(definitions: &mut [u32], n: usize, d: Definition, start: u32, end: u32)
+    ensures { λ _. ⌜ now (definitions .exit) ≡ put definitionWidth (now (definitions .entry)) n (definitionWords d start end) ⌝ }
 {
     let words = [
         d.kind,
@@ -45,6 +45,8 @@ pub fn put_definition(definitions: &mut [u32], n: usize, d: Definition)
         d.statements,
         d.a,
         d.b,
+        start,
+        end,
     ];
     put_record(definitions, n, &words);
 }

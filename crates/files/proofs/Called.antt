@@ -1,11 +1,11 @@
 -- Theorems about `read_file`'s own promise: what an accepted call and a refused one say of the tokens and leave in the tables. Assumes nothing.
 use Prim.Native.Nat.{ℕ, suc, _+_, _-_, _/_, _≤_, _<_}
 use native.Mathlib.Omega.{arith}
-use mathlib.Core.Path.{_≡_, refl, sym, ap, _∙_}
+use mathlib.Core.Path.{_≡_, refl, sym, ap, subst, _∙_}
 use mathlib.Core.Logic.{_↔_}
 use mathlib.Core.Bool.{Bool, true, false, cond}
 use mathlib.Core.List.{List, [], map}
-use borrow.Author.Tests.{ltb-true, ltb-false, le-ltb}
+use borrow.Author.Tests.{ltb-true, ltb-false, lt-ltb, le-ltb}
 use lib.ListN.{length, getD, take}
 use lib.Dec.{ltb, eqb}
 use Rattle.tokens.specs.Number as number
@@ -14,6 +14,7 @@ use Rattle.tokens.specs.Kind.{Eof, Pound}
 use Rattle.tokens.specs.Token.{Token, tokenAt}
 use Rattle.tokens.specs.Name.{typeTold}
 use Rattle.tokens.specs.Kept.{keptOf, keptTokens}
+use Rattle.tokens.specs.Place.{Positions, positions}
 use Rattle.tokens.specs.WellFormed.{WellFormed}
 use Rattle.tokens.specs.Door.{door}
 use Rattle.tokens.proofs.DoorLaws.{kept-not-empty, Means, means-30, means-35, means-31, means-through, door-means, let-through}
@@ -35,7 +36,7 @@ use Rattle.grammar.proofs.FileDemand.{file-exactly, file-cursor, file-repeated,
 use Rattle.grammar.proofs.FileRecorded.{file-as-many, file-as-wide}
 use Rattle.grammar.proofs.Tabled.{stored-filled, walk-labels-all}
 use Rattle.grammar.proofs.FileTabled.{file-tabled, file-walked}
-use Rattle.grammar.proofs.FileCases.{fileOutcomes, file-rows-hold, strict-files-hold}
+use Rattle.grammar.proofs.FileCases.{readIn, fileOutcomes, file-rows-hold, strict-files-hold}
 use Rattle.statements.proofs.Called.{Through, number-is}
 use Rattle.files.specs.declared.entry.File.{File}
 use Rattle.files.specs.Call.{values, numberOf, afterReading, fileReading, fileAnswered, FileCall}
@@ -126,6 +127,9 @@ module _ {mode : ℕ} {text words kept definitions statements arguments : List �
   abbrev tokens : List Token
   tokens = keptTokens text words
 
+  abbrev pos : Positions
+  pos = positions words (keptOf words)
+
   -- every call's numbers say so
   pub file-call-says : Says mode text words kept definitions statements arguments (values r)
   file-call-says = rw (call .answer) (entrance-says mode text words kept definitions statements arguments (isMode mode) refl)
@@ -133,7 +137,7 @@ module _ {mode : ℕ} {text words kept definitions statements arguments : List �
   -- the answer and the tables are those of the reading ds, and Eof stands at n
   pub record Holding (n : ℕ) (ds : List Definition) : Type 0 where
     pub answer : values r ≡ fileNumbers tokens (read ds n)
-    pub definitionsHold : definitions′ ≡ filled (length definitions) (definitionRecords 0 0 ds)
+    pub definitionsHold : definitions′ ≡ filled (length definitions) (definitionRecords pos 0 0 ds)
     pub statementsHold : statements′ ≡ filled (length statements) (fileStatements 0 0 ds)
     pub argumentsHold : arguments′ ≡ filled (length arguments) (fileArgumentRecords ds)
 
@@ -190,28 +194,28 @@ module _ {mode : ℕ} {text words kept definitions statements arguments : List �
   -- ---- the tables
 
   tables-of : (n : ℕ) (ds : List Definition) → IsFile mode text words n ds → Holding n ds
-      → FileTable tokens definitions′ statements′ arguments′ 0 (length ds) 0 (fileStatementCount ds) 0 (length (fileArguments ds)) 0 n
+      → FileTable tokens pos definitions′ statements′ arguments′ 0 (length ds) 0 (fileStatementCount ds) 0 (length (fileArguments ds)) 0 n
   tables-of n ds follows holds =
-      let wide = file-as-wide 0 0 ds in
-      file-tabled (rulesOf mode) true tokens n ds follows definitions′ statements′ arguments′
-      (rw (holds .definitionsHold) (stored-filled definitionWidth (length definitions) (definitionRecords 0 0 ds) (wide .0)))
+      let wide = file-as-wide pos 0 0 ds in
+      file-tabled (rulesOf mode) true tokens pos n ds follows definitions′ statements′ arguments′
+      (rw (holds .definitionsHold) (stored-filled definitionWidth (length definitions) (definitionRecords pos 0 0 ds) (wide .0)))
       (rw (holds .statementsHold) (stored-filled statementWidth (length statements) (fileStatements 0 0 ds) (wide .1)))
       (rw (holds .argumentsHold) (stored-filled argumentWidth (length arguments) (fileArgumentRecords ds) (wide .2)))
 
   -- each word of each record of an accepted call: the definitions cover the tokens from place 0 to the cursor, and there stands the list's Eof. (That zeros stand
   -- behind the records, the promise says itself.)
   pub file-call-tables : (q k n m : ℕ) → values r ≡ acceptance q k n m
-      → FileTable tokens definitions′ statements′ arguments′ 0 k 0 n 0 m 0 q × (q < length tokens) × Stands tokens q Eof
+      → FileTable tokens pos definitions′ statements′ arguments′ 0 k 0 n 0 m 0 q × (q < length tokens) × Stands tokens q Eof
   file-call-tables q k n m is =
       let a = accepted (number-is is) in
       let told = sym (a .holds .answer) ∙ is in
-      let all : FileTable tokens definitions′ statements′ arguments′ 0 (length (a .ds)) 0 (fileStatementCount (a .ds)) 0 (length (fileArguments (a .ds))) 0 (a .n) × (a .n < length tokens) × Stands tokens (a .n) Eof =
+      let all : FileTable tokens pos definitions′ statements′ arguments′ 0 (length (a .ds)) 0 (fileStatementCount (a .ds)) 0 (length (fileArguments (a .ds))) 0 (a .n) × (a .n < length tokens) × Stands tokens (a .n) Eof =
       (tables-of (a .n) (a .ds) (a .follows) (a .holds), a .follows .0, a .follows .1) in
       rw (ap (λ (w : List ℕ). getD w 1 0) told) at (rw (ap (λ (w : List ℕ). getD w 2 0) told) at (rw (ap (λ (w : List ℕ). getD w 3 0) told) at (rw (ap (λ (w : List ℕ). getD w 4 0) told) at all)))
 
   -- and the statements of each definition record, by the words alone but for the braces
   pub file-call-ranges : (q k n m : ℕ) → values r ≡ acceptance q k n m → (d : ℕ) → d < k → StatementsOf tokens definitions′ statements′ d
-  file-call-ranges q k n m is = file-walked tokens definitions′ statements′ arguments′ k n m q (file-call-tables q k n m is .0)
+  file-call-ranges q k n m is = file-walked tokens pos definitions′ statements′ arguments′ k n m q (file-call-tables q k n m is .0)
 
   -- for each label among the statements of a macro, fn or test, its inner records: no labels, from behind its colon to its end
   pub file-call-labels : (q k n m : ℕ) → values r ≡ acceptance q k n m
@@ -296,10 +300,17 @@ pub record Told (definitions statements arguments : List ℕ) (r : File) (defini
   pub statementsHold : statements′ ≡ filled (length statements) (o .statements)
   pub argumentsHold : arguments′ ≡ filled (length arguments) (o .arguments)
 
--- a mode that there is, a well-formed list, a kept list long enough, and tables with room for the reading's records: the call answers the reading
+-- a mode that there is, a well-formed list and a kept list long enough: the call is let through, and answers by the reading
+answers-reading : {mode : ℕ} {text words kept definitions statements arguments : List ℕ} {r : File} {kept′ definitions′ statements′ arguments′ : List ℕ}
+    → isMode mode ≡ true → WellFormed text words → length (keptOf words) ≤ length kept
+    → FileCall mode text words kept definitions statements arguments r kept′ definitions′ statements′ arguments′
+    → values r ≡ afterReading (keptTokens text words) (fileReading mode text words) (length definitions) (length statements) (length arguments)
+answers-reading {text = text} {words} {kept} known formed enough call = call .answer ∙ rw (known, let-through text words 0 (length kept) formed enough (kept-not-empty text words formed))
+
+-- and tables with room for the reading's records: it answers the reading
 pub with-room : {mode : ℕ} {text words kept definitions statements arguments : List ℕ} {r : File} {kept′ definitions′ statements′ arguments′ : List ℕ}
     → isMode mode ≡ true → WellFormed text words → length (keptOf words) ≤ length kept
-    → (o : FileOutcome) → fileOutcome (keptTokens text words) (fileReading mode text words) ≡ o
+    → (o : FileOutcome) → fileOutcome (keptTokens text words) (positions words (keptOf words)) (fileReading mode text words) ≡ o
     → length (o .definitions) ≤ length definitions / definitionWidth
     → length (o .statements) ≤ length statements / statementWidth
     → length (o .arguments) ≤ length arguments / argumentWidth
@@ -309,20 +320,17 @@ unfolding afterReading heldAfter
 with-room {mode} {text} {words} {kept} {definitions} {statements} {arguments} {r} {kept′} {definitions′} {statements′} {arguments′} known formed enough o is room room′ room″ call =
     rw is at (go (fileReading mode text words) refl (rw (← is) at room) (rw (← is) at room′) (rw (← is) at room″))
   where
-    answered : values r ≡ afterReading (keptTokens text words) (fileReading mode text words) (length definitions) (length statements) (length arguments)
-    answered = call .answer ∙ rw (known, let-through text words 0 (length kept) formed enough (kept-not-empty text words formed))
-
     go : (x : Answer (List Definition)) → fileReading mode text words ≡ x
-        → length (recordsOf (definitionRecords 0 0) x) ≤ length definitions / definitionWidth
+        → length (recordsOf (definitionRecords (positions words (keptOf words)) 0 0) x) ≤ length definitions / definitionWidth
         → length (recordsOf (fileStatements 0 0) x) ≤ length statements / statementWidth
         → length (recordsOf fileArgumentRecords x) ≤ length arguments / argumentWidth
-        → Told definitions statements arguments r definitions′ statements′ arguments′ (fileOutcome (keptTokens text words) x)
+        → Told definitions statements arguments r definitions′ statements′ arguments′ (fileOutcome (keptTokens text words) (positions words (keptOf words)) x)
     go (read ds n) e hd hs ha =
-        let many = file-as-many 0 0 ds in
-        let told : values r ≡ fileNumbers (keptTokens text words) (read ds n) = answered ∙ rw e (rw (le-ltb _ _ (rw (many .0) at hd), le-ltb _ _ (rw (many .1) at hs), le-ltb _ _ (rw (many .2) at ha))) in
+        let many = file-as-many (positions words (keptOf words)) 0 0 ds in
+        let told : values r ≡ fileNumbers (keptTokens text words) (read ds n) = answers-reading known formed enough call ∙ rw e (rw (le-ltb _ _ (rw (many .0) at hd), le-ltb _ _ (rw (many .1) at hs), le-ltb _ _ (rw (many .2) at ha))) in
         record { answer = told; definitionsHold = call .definitionsHold ∙ rw (e, told); statementsHold = call .statementsHold ∙ rw (e, told); argumentsHold = call .argumentsHold ∙ rw (e, told) }
     go (refused c q) e hd hs ha =
-        let told : values r ≡ refusalAt (keptTokens text words) c q = answered ∙ rw e in
+        let told : values r ≡ refusalAt (keptTokens text words) c q = answers-reading known formed enough call ∙ rw e in
         let ours = file-ours (rulesOf mode) true (keptTokens text words) c q e in
         record {
           answer = told;
@@ -330,6 +338,31 @@ with-room {mode} {text} {words} {kept} {definitions} {statements} {arguments} {r
           statementsHold = call .statementsHold ∙ rw told (held-refused c _ statements ours);
           argumentsHold = call .argumentsHold ∙ rw told (held-refused c _ arguments ours);
         }
+
+-- a table of definitions without room for those of the reading: 32, and the cursor is how many there are
+pub too-few-definitions : {mode : ℕ} {text words kept definitions statements arguments : List ℕ} {r : File} {kept′ definitions′ statements′ arguments′ : List ℕ}
+    → isMode mode ≡ true → WellFormed text words → length (keptOf words) ≤ length kept
+    → (o : FileOutcome) → fileOutcome (keptTokens text words) (positions words (keptOf words)) (fileReading mode text words) ≡ o
+    → length definitions / definitionWidth < length (o .definitions)
+    → FileCall mode text words kept definitions statements arguments r kept′ definitions′ statements′ arguments′
+    → values r ≡ refusal number.DefinitionsTooSmall (length (o .definitions))
+unfolding afterReading
+too-few-definitions {mode} {text} {words} {definitions = definitions} {statements} {arguments} {r} known formed enough o is few call =
+    let same = ap (λ (x : FileOutcome). length (x .definitions)) is in
+    go (fileReading mode text words) refl (subst (λ (n : ℕ). length definitions / definitionWidth < n) (sym same) few) ∙ ap (refusal number.DefinitionsTooSmall) same
+  where
+    go : (x : Answer (List Definition)) → fileReading mode text words ≡ x
+        → length definitions / definitionWidth < length (recordsOf (definitionRecords (positions words (keptOf words)) 0 0) x)
+        → values r ≡ refusal number.DefinitionsTooSmall (length (recordsOf (definitionRecords (positions words (keptOf words)) 0 0) x))
+    go (read ds n) e h =
+        let many = file-as-many (positions words (keptOf words)) 0 0 ds .0 in
+        let small : ltb (length definitions / definitionWidth) (length ds) ≡ true = lt-ltb _ _ (rw many at h) in
+        let said : afterReading (keptTokens text words) (read ds n) (length definitions) (length statements) (length arguments) ≡ refusal number.DefinitionsTooSmall (length ds) = rw small in
+        answers-reading known formed enough call
+        ∙ ap (λ (x : Answer (List Definition)). afterReading (keptTokens text words) x (length definitions) (length statements) (length arguments)) e
+        ∙ said
+        ∙ ap (refusal number.DefinitionsTooSmall) (sym many)
+    go (refused c q) e h = absurd (omega arith)
 
 -- ---- the rows of files, and those of request [1]
 
@@ -341,23 +374,24 @@ Answered mode texts row =
     → WellFormed text words
     → keptTokens text words ≡ tokensOf texts 0 (ended (row .input))
     → length (keptOf words) ≤ length kept
-    → length (row .outcome .definitions) ≤ length definitions / definitionWidth
-    → length (row .outcome .statements) ≤ length statements / statementWidth
-    → length (row .outcome .arguments) ≤ length arguments / argumentWidth
+    → length (row .outcome (positions words (keptOf words)) .definitions) ≤ length definitions / definitionWidth
+    → length (row .outcome (positions words (keptOf words)) .statements) ≤ length statements / statementWidth
+    → length (row .outcome (positions words (keptOf words)) .arguments) ≤ length arguments / argumentWidth
     → FileCall mode text words kept definitions statements arguments r kept′ definitions′ statements′ arguments′
-    → Told definitions statements arguments r definitions′ statements′ arguments′ (row .outcome)
+    → Told definitions statements arguments r definitions′ statements′ arguments′ (row .outcome (positions words (keptOf words)))
 
 -- where the reader gives a list of rows their outcomes, a call does
 rows-answered : (mode : ℕ) (texts : ℕ → List ℕ) (list : List FileRow) → isMode mode ≡ true → fileOutcomes mode texts list ≡ map (λ row. row .outcome) list → All (Answered mode texts) list
 unfolding fileOutcomes
 rows-answered mode texts list known hold = all-map (λ row. answer row ≡ row .outcome) (Answered mode texts) list one (all-mapped answer (λ row. row .outcome) list hold)
   where
-    answer : FileRow → FileOutcome
-    answer row = let all = tokensOf texts 0 (ended (row .input)) in fileOutcome all (fileAt (rulesOf mode) true all)
+    answer : FileRow → Positions → FileOutcome
+    answer row = readIn mode (tokensOf texts 0 (ended (row .input)))
 
     one : (row : FileRow) → answer row ≡ row .outcome → Answered mode texts row
     one row e text words kept definitions statements arguments r kept′ definitions′ statements′ arguments′ formed same enough room room′ room″ call =
-        with-room known formed enough (row .outcome) (rw same e) room room′ room″ call
+        let pos = positions words (keptOf words) in
+        with-room known formed enough (row .outcome pos) (rw same (ap (λ (f : Positions → FileOutcome). f pos) e)) room room′ room″ call
 
 pub file-call-rows : (texts : ℕ → List ℕ) → All (Answered lenientMode texts) fileRows
 unfolding isMode

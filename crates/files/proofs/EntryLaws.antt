@@ -11,6 +11,7 @@ use Rattle.tokens.specs.Lent.{clearedBehind}
 use Rattle.tokens.specs.Token.{Token, tokenAt, view}
 use Rattle.tokens.specs.Name.{typeTold}
 use Rattle.tokens.specs.Kept.{keptOf}
+use Rattle.tokens.specs.Place.{Positions, positions}
 use Rattle.tokens.specs.Door as doors
 use Rattle.tokens.specs.Door.{door, Prepared}
 use Rattle.tokens.specs.declared.door.Door.{Door}
@@ -25,6 +26,7 @@ use Rattle.grammar.specs.FileReader.{fileAt}
 use Rattle.grammar.specs.FileRecords.{definitionRecords, fileStatements, fileArguments, fileArgumentRecords, fileStatementCount}
 use Rattle.grammar.specs.Call.{ReadingNumber, filled, heldAfter}
 use Rattle.grammar.proofs.Numbers.{held-refused}
+use Rattle.grammar.proofs.FileRecorded.{file-as-many, file-as-wide}
 use Rattle.files.specs.declared.file.FileRead.{FileRead}
 use Rattle.files.specs.declared.file.FileRead.the-variants as files
 use Rattle.files.specs.declared.entry.File.{File}
@@ -32,8 +34,7 @@ use Rattle.files.specs.declared.entry.File.the-variants as answers
 use Rattle.files.specs.Answers.{FileParsed}
 use Rattle.files.specs.Call.{afterReading, FileCall}
 use Rattle.files.specs.Taken.{FileTaken}
-use Rattle.statements.proofs.EntryLaws.{filled-none}
-use Rattle.files.proofs.RecordLaws.{definition-count, statement-count, argument-count, definition-wide, statement-wide, argument-wide}
+use Rattle.statements.proofs.EntryLaws.{all-wide, filled-none}
 
 -- ---- tables
 
@@ -47,13 +48,13 @@ none-left t u v same f = f ∙ ap (λ (n : ℕ). replicate n 0) same ∙ sym (fi
 
 -- ---- each way out of `read_kept`: after a refusal the tables are zeroed, else what stands behind the records
 
-module _ (all : List Token) (de st ar de₁ st₁ ar₁ : List ℕ) (de-same : length de₁ ≡ length de) (st-same : length st₁ ≡ length st) (ar-same : length ar₁ ≡ length ar) (de₂ st₂ ar₂ : List ℕ) where
+module _ (all : List Token) (pos : Positions) (de st ar de₁ st₁ ar₁ : List ℕ) (de-same : length de₁ ≡ length de) (st-same : length st₁ ≡ length st) (ar-same : length ar₁ ≡ length ar) (de₂ st₂ ar₂ : List ℕ) where
   module _ (zeroed : Zeroed de₁ de₂ × Zeroed st₁ st₂ × Zeroed ar₁ ar₂) where
     -- 1 to 21
-    pub taken-refused : (read : Res (List Definition)) (c q t size : ℕ) (r : FileRead) → FileParsed read de st ar r de₁ st₁ ar₁ → r ≡ files.Refused c q
+    pub taken-refused : (read : Res (List Definition)) (c q t size : ℕ) (r : FileRead) → FileParsed pos read de st ar r de₁ st₁ ar₁ → r ≡ files.Refused c q
         → typeTold c (tokenAt all q) ≡ (t, size)
         → (answer read ≡ refused c q → ReadingNumber c)
-        → FileTaken all (answer read) de st ar (answers.Refused c q t size) de₂ st₂ ar₂
+        → FileTaken all pos (answer read) de st ar (answers.Refused c q t size) de₂ st₂ ar₂
     unfolding afterReading
     taken-refused (got ds k) c q t size r h g told small = absurd (let z : _≡_ {A = ℕ} 0 1 = cc (h .is) in omega arith)
     taken-refused (bad y w) c q t size r h g told small =
@@ -67,9 +68,9 @@ module _ (all : List Token) (de st ar de₁ st₁ ar₁ : List ℕ) (de-same : l
         }
 
     -- 32
-    pub taken-32 : (read : Res (List Definition)) (p d i a : ℕ) (r : FileRead) → FileParsed read de st ar r de₁ st₁ ar₁ → r ≡ files.Done p d i a
+    pub taken-32 : (read : Res (List Definition)) (p d i a : ℕ) (r : FileRead) → FileParsed pos read de st ar r de₁ st₁ ar₁ → r ≡ files.Done p d i a
         → length de₁ / definitionWidth < d
-        → FileTaken all (answer read) de st ar (answers.DefinitionsTooSmall d) de₂ st₂ ar₂
+        → FileTaken all pos (answer read) de st ar (answers.DefinitionsTooSmall d) de₂ st₂ ar₂
     unfolding afterReading heldAfter
     taken-32 (got ds k) p d i a r h g small =
         let count : length ds ≡ d = cc (h .is) in
@@ -83,9 +84,9 @@ module _ (all : List Token) (de st ar de₁ st₁ ar₁ : List ℕ) (de-same : l
     taken-32 (bad y w) p d i a r h g small = absurd (let z : _≡_ {A = ℕ} 0 1 = cc (h .is) in omega arith)
 
     -- 33
-    pub taken-33 : (read : Res (List Definition)) (p d i a : ℕ) (r : FileRead) → FileParsed read de st ar r de₁ st₁ ar₁ → r ≡ files.Done p d i a
+    pub taken-33 : (read : Res (List Definition)) (p d i a : ℕ) (r : FileRead) → FileParsed pos read de st ar r de₁ st₁ ar₁ → r ≡ files.Done p d i a
         → d ≤ length de₁ / definitionWidth → length st₁ / statementWidth < i
-        → FileTaken all (answer read) de st ar (answers.StatementsTooSmall i) de₂ st₂ ar₂
+        → FileTaken all pos (answer read) de st ar (answers.StatementsTooSmall i) de₂ st₂ ar₂
     unfolding afterReading heldAfter
     taken-33 (got ds k) p d i a r h g room small =
         let count : length ds ≡ d = cc (h .is) in
@@ -100,9 +101,9 @@ module _ (all : List Token) (de st ar de₁ st₁ ar₁ : List ℕ) (de-same : l
     taken-33 (bad y w) p d i a r h g room small = absurd (let z : _≡_ {A = ℕ} 0 1 = cc (h .is) in omega arith)
 
     -- 34
-    pub taken-34 : (read : Res (List Definition)) (p d i a : ℕ) (r : FileRead) → FileParsed read de st ar r de₁ st₁ ar₁ → r ≡ files.Done p d i a
+    pub taken-34 : (read : Res (List Definition)) (p d i a : ℕ) (r : FileRead) → FileParsed pos read de st ar r de₁ st₁ ar₁ → r ≡ files.Done p d i a
         → d ≤ length de₁ / definitionWidth → i ≤ length st₁ / statementWidth → length ar₁ / argumentWidth < a
-        → FileTaken all (answer read) de st ar (answers.ArgumentsTooSmall a) de₂ st₂ ar₂
+        → FileTaken all pos (answer read) de st ar (answers.ArgumentsTooSmall a) de₂ st₂ ar₂
     unfolding afterReading heldAfter
     taken-34 (got ds k) p d i a r h g room room′ small =
         let count : length ds ≡ d = cc (h .is) in
@@ -123,16 +124,18 @@ module _ (all : List Token) (de st ar de₁ st₁ ar₁ : List ℕ) (de-same : l
     taken-34 (bad y w) p d i a r h g room room′ small = absurd (let z : _≡_ {A = ℕ} 0 1 = cc (h .is) in omega arith)
 
   -- accepted
-  pub taken-read : (read : Res (List Definition)) (p d i a : ℕ) (r : FileRead) → FileParsed read de st ar r de₁ st₁ ar₁ → r ≡ files.Done p d i a
+  pub taken-read : (read : Res (List Definition)) (p d i a : ℕ) (r : FileRead) → FileParsed pos read de st ar r de₁ st₁ ar₁ → r ≡ files.Done p d i a
       → d ≤ length de₁ / definitionWidth → i ≤ length st₁ / statementWidth → a ≤ length ar₁ / argumentWidth
       → (de₂ ≡ clearedBehind definitionWidth d de₁) × (st₂ ≡ clearedBehind statementWidth i st₁) × (ar₂ ≡ clearedBehind argumentWidth a ar₁)
-      → FileTaken all (answer read) de st ar (answers.Read p d i a) de₂ st₂ ar₂
+      → FileTaken all pos (answer read) de st ar (answers.Read p d i a) de₂ st₂ ar₂
   unfolding afterReading heldAfter
   taken-read (got ds k) p d i a r h g room room′ room″ cleared =
       let count : length ds ≡ d = cc (h .is) in
       let count′ : fileStatementCount ds ≡ i = cc (h .is) in
       let count″ : length (fileArguments ds) ≡ a = cc (h .is) in
       let place : k ≡ p = cc (h .is) in
+      let many = file-as-many pos 0 0 ds in
+      let wide = file-as-wide pos 0 0 ds in
       record {
         answer =
             rw (
@@ -143,13 +146,13 @@ module _ (all : List Token) (de st ar de₁ st₁ ar₁ : List ℕ) (de-same : l
         own = tt;
         definitionsHold =
             cleared .0
-            ∙ records-then-zeros definitionWidth (definitionRecords 0 0 ds) de (omega arith) (definition-wide 0 0 ds) (definition-count 0 0 ds ∙ count) (rw (← de-same) room) (h .definitionsHold);
+            ∙ records-then-zeros definitionWidth (definitionRecords pos 0 0 ds) de (omega arith) (all-wide definitionWidth (definitionRecords pos 0 0 ds) (wide .0)) (many .0 ∙ count) (rw (← de-same) room) (h .definitionsHold);
         statementsHold =
             cleared .1
-            ∙ records-then-zeros statementWidth (fileStatements 0 0 ds) st (omega arith) (statement-wide 0 0 ds) (statement-count 0 0 ds ∙ count′) (rw (← st-same) room′) (h .statementsHold);
+            ∙ records-then-zeros statementWidth (fileStatements 0 0 ds) st (omega arith) (all-wide statementWidth (fileStatements 0 0 ds) (wide .1)) (many .1 ∙ count′) (rw (← st-same) room′) (h .statementsHold);
         argumentsHold =
             cleared .2
-            ∙ records-then-zeros argumentWidth (fileArgumentRecords ds) ar (omega arith) (argument-wide ds) (argument-count ds ∙ count″) (rw (← ar-same) room″) (h .argumentsHold);
+            ∙ records-then-zeros argumentWidth (fileArgumentRecords ds) ar (omega arith) (all-wide argumentWidth (fileArgumentRecords ds) (wide .2)) (many .2 ∙ count″) (rw (← ar-same) room″) (h .argumentsHold);
       }
   taken-read (bad y w) p d i a r h g room room′ room″ cleared = absurd (let z : _≡_ {A = ℕ} 0 1 = cc (h .is) in omega arith)
 
@@ -167,10 +170,10 @@ module _ (mode : ℕ) (known : isMode mode ≡ true) (text words kept kept′ : 
 
   -- let through: the reading of the kept numbers, which are the first words of the kept list
   pub called-ready : (n : ℕ) → r ≡ Ready n → (de st ar : List ℕ) (f : File) (de′ st′ ar′ : List ℕ)
-      → FileTaken (view text words (take (n - 0) kept′)) (fileAt (rulesOf mode) true (view text words (take (n - 0) kept′))) de st ar f de′ st′ ar′
+      → FileTaken (view text words (take (n - 0) kept′)) (positions words (take (n - 0) kept′)) (fileAt (rulesOf mode) true (view text words (take (n - 0) kept′))) de st ar f de′ st′ ar′
       → FileCall mode text words kept de st ar f kept′ de′ st′ ar′
   called-ready n is de st ar f de′ st′ ar′ taken =
-      let read : FileTaken (view text words (keptOf words)) (fileAt (rulesOf mode) true (view text words (keptOf words))) de st ar f de′ st′ ar′ = rw (kept-part text words 0 kept prepared is .0) at taken in
+      let read : FileTaken (view text words (keptOf words)) (positions words (keptOf words)) (fileAt (rulesOf mode) true (view text words (keptOf words))) de st ar f de′ st′ ar′ = rw (kept-part text words 0 kept prepared is .0) at taken in
       record {
         answer = read .answer ∙ rw (known, sym (told is));
         own = read .own;

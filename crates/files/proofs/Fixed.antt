@@ -6,6 +6,8 @@ use mathlib.Core.List.{List, [], _∷_}
 use borrow.Author.Tests.{ne-eqb}
 use lib.ListN.{getD}
 use Rattle.tokens.specs.Number as number
+use Rattle.tokens.specs.Kept.{keptOf}
+use Rattle.tokens.specs.Place.{Positions, positions}
 use Rattle.grammar.specs.Result.{Res, got, choose}
 use Rattle.grammar.specs.Call.{recordsOf, heldAfter}
 use Rattle.grammar.specs.FileReading.{Definition}
@@ -63,18 +65,18 @@ one-call {mode} {text} {words} {de = de} {st = st} {ar = ar} {r = r} {r′ = r�
     let same = one-file-answer r r′ (m .own) (n .own) (m .answer ∙ sym (n .answer)) in (
       same,
       m .list ∙ sym (n .list),
-      m .definitionsHold ∙ ap (λ (x : File). heldAfter (numberOf x) (recordsOf (definitionRecords 0 0) (fileReading mode text words)) de) same ∙ sym (n .definitionsHold),
+      m .definitionsHold ∙ ap (λ (x : File). heldAfter (numberOf x) (recordsOf (definitionRecords (positions words (keptOf words)) 0 0) (fileReading mode text words)) de) same ∙ sym (n .definitionsHold),
       m .statementsHold ∙ ap (λ (x : File). heldAfter (numberOf x) (recordsOf (fileStatements 0 0) (fileReading mode text words)) st) same ∙ sym (n .statementsHold),
       m .argumentsHold ∙ ap (λ (x : File). heldAfter (numberOf x) (recordsOf fileArgumentRecords (fileReading mode text words)) ar) same ∙ sym (n .argumentsHold),
     )
 
 -- of `parse` and `read_definitions` the same
-module _ {de st ar : List ℕ} {r r′ : FileRead} {de₁ de₂ st₁ st₂ ar₁ ar₂ : List ℕ} where
-  pub one-file : {read : Res (List Definition)} → FileParsed read de st ar r de₁ st₁ ar₁ → FileParsed read de st ar r′ de₂ st₂ ar₂ → r ≡ r′
+module _ {pos : Positions} {de st ar : List ℕ} {r r′ : FileRead} {de₁ de₂ st₁ st₂ ar₁ ar₂ : List ℕ} where
+  pub one-file : {read : Res (List Definition)} → FileParsed pos read de st ar r de₁ st₁ ar₁ → FileParsed pos read de st ar r′ de₂ st₂ ar₂ → r ≡ r′
   one-file m n = m .is ∙ sym (n .is)
 
   pub one-file-writing : {ds : List Definition} {k : ℕ}
-      → FileParsed (got ds k) de st ar r de₁ st₁ ar₁
-      → FileParsed (got ds k) de st ar r′ de₂ st₂ ar₂
+      → FileParsed pos (got ds k) de st ar r de₁ st₁ ar₁
+      → FileParsed pos (got ds k) de st ar r′ de₂ st₂ ar₂
       → (de₁ ≡ de₂) × (st₁ ≡ st₂) × (ar₁ ≡ ar₂)
   one-file-writing m n = (m .definitionsHold ∙ sym (n .definitionsHold), m .statementsHold ∙ sym (n .statementsHold), m .argumentsHold ∙ sym (n .argumentsHold))

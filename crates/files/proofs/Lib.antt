@@ -2,6 +2,6 @@
 pub mod EntryLaws
 pub mod Called
 pub mod FileDemand
+pub mod TextRanges
 pub mod FileLaws
 pub mod Fixed
-pub mod RecordLaws

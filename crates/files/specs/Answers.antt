@@ -4,7 +4,7 @@ use mathlib.Core.Path.{_≡_}
 use mathlib.Core.List.{List}
 use lib.ListN.{length}
 use Rattle.tokens.specs.Number.{definitionWidth, statementWidth, argumentWidth}
-use Rattle.tokens.specs.Place.{FromDoor}
+use Rattle.tokens.specs.Place.{FromDoor, Positions}
 use Rattle.names.specs.Names.{Fresh}
 use Rattle.grammar.specs.Result.{number, beyond, Res, got, bad}
 use Rattle.grammar.specs.Written.{Written}
@@ -24,8 +24,8 @@ fileRead (got ds k) = files.Done k (length ds) (fileStatementCount ds) (length (
 fileRead (bad y w) = files.Refused (number y) (w + beyond y)
 
 -- what the loop over definitions promises: its answer, and the records of all of them in the three tables
-pub record FileParsed (read : Res (List Definition)) (de st ar : List ℕ) (r : FileRead) (de′ st′ ar′ : List ℕ) : Type 0 where
+pub record FileParsed (pos : Positions) (read : Res (List Definition)) (de st ar : List ℕ) (r : FileRead) (de′ st′ ar′ : List ℕ) : Type 0 where
   pub is : r ≡ fileRead read
-  pub definitionsHold : Written definitionWidth (definitionRecords 0 0) read 0 de de′
+  pub definitionsHold : Written definitionWidth (definitionRecords pos 0 0) read 0 de de′
   pub statementsHold : Written statementWidth (fileStatements 0 0) read 0 st st′
   pub argumentsHold : Written argumentWidth fileArgumentRecords read 0 ar ar′

@@ -15,7 +15,7 @@ ghost use Rattle.tokens.specs.Token.{view};
 ghost use Rattle.grammar.specs.Rules.{asks};
 ghost use Rattle.grammar.specs.FileReader.{fileAt};
 ghost use Rattle.tokens.specs.Number.{definitionWidth, statementWidth, argumentWidth};
-ghost use Rattle.tokens.specs.Place.{FromDoor};
+ghost use Rattle.tokens.specs.Place.{FromDoor, positions};
 ghost use Rattle.files.specs.Call.{FileCall};
 ghost use Rattle.files.specs.Taken.{FileTaken};
 
@@ -76,7 +76,7 @@ fn read_kept(
     arguments: &mut [u32],
 ) -> File
     requires { ⌜ FromDoor (now tokens) (now kept) ⌝ }
-    ensures { λ r. ⌜ FileTaken (view (now (text .entry)) (now (tokens .entry)) (now (kept .entry)))
+    ensures { λ r. ⌜ FileTaken (view (now (text .entry)) (now (tokens .entry)) (now (kept .entry))) (positions (now (tokens .entry)) (now (kept .entry)))
         (fileAt (asks strict) true (view (now (text .entry)) (now (tokens .entry)) (now (kept .entry))))
         (now (definitions .entry)) (now (statements .entry)) (now (arguments .entry)) r
         (now (definitions .exit)) (now (statements .exit)) (now (arguments .exit)) ⌝ }

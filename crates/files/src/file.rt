@@ -14,7 +14,7 @@ ghost use mathlib.Core.Bool.{true};
 ghost use Rattle.tokens.specs.Token.{view};
 ghost use Rattle.grammar.specs.Rules.{asks};
 ghost use Rattle.grammar.specs.FileReader as reader;
-ghost use Rattle.tokens.specs.Place.{FromDoor, tokensFrom};
+ghost use Rattle.tokens.specs.Place.{FromDoor, tokensFrom, positions};
 ghost use Rattle.files.specs.Answers.{Readable, FileParsed};
 ghost use Rattle.definitions.specs.Answers.{Reading, DefAdded};
 
@@ -57,7 +57,7 @@ fn next_definition(
     a: usize,
 ) -> DefRead
     requires { ⌜ Reading (now tokens) (now kept) p p i a ⌝ }
-    ensures { λ r. ⌜ DefAdded (view (now (text .entry)) (now (tokens .entry)) (now (kept .entry))) p i a (length (now (kept .entry)))
+    ensures { λ r. ⌜ DefAdded (view (now (text .entry)) (now (tokens .entry)) (now (kept .entry))) (positions (now (tokens .entry)) (now (kept .entry))) p i a (length (now (kept .entry)))
         (reader.topLevel (asks strict) p (tokensFrom (now (text .entry)) (now (tokens .entry)) (now (kept .entry)) p)) d i a
         (now (definitions .entry)) (now (statements .entry)) (now (arguments .entry)) r
         (now (definitions .exit)) (now (statements .exit)) (now (arguments .exit)) ⌝ }
@@ -93,7 +93,7 @@ fn parse(
     places: &mut [u32],
 ) -> FileRead
     requires { ⌜ Readable (now tokens) (now kept) (now heads) (now next) (now places) ⌝ }
-    ensures { λ r. ⌜ FileParsed (reader.parse (asks strict) true [] 0 (view (now (text .entry)) (now (tokens .entry)) (now (kept .entry))))
+    ensures { λ r. ⌜ FileParsed (positions (now (tokens .entry)) (now (kept .entry))) (reader.parse (asks strict) true [] 0 (view (now (text .entry)) (now (tokens .entry)) (now (kept .entry))))
         (now (definitions .entry)) (now (statements .entry)) (now (arguments .entry)) r
         (now (definitions .exit)) (now (statements .exit)) (now (arguments .exit)) ⌝ }
 {
@@ -156,7 +156,7 @@ fn parse_few(
 ) -> FileRead
     requires { ⌜ FromDoor (now tokens) (now kept) ⌝ }
     requires { ⌜ length (now kept) ≤ 1536 ⌝ }
-    ensures { λ r. ⌜ FileParsed (reader.parse (asks strict) true [] 0 (view (now (text .entry)) (now (tokens .entry)) (now (kept .entry))))
+    ensures { λ r. ⌜ FileParsed (positions (now (tokens .entry)) (now (kept .entry))) (reader.parse (asks strict) true [] 0 (view (now (text .entry)) (now (tokens .entry)) (now (kept .entry))))
         (now (definitions .entry)) (now (statements .entry)) (now (arguments .entry)) r
         (now (definitions .exit)) (now (statements .exit)) (now (arguments .exit)) ⌝ }
 {
@@ -189,7 +189,7 @@ fn parse_some(
 ) -> FileRead
     requires { ⌜ FromDoor (now tokens) (now kept) ⌝ }
     requires { ⌜ length (now kept) ≤ 12288 ⌝ }
-    ensures { λ r. ⌜ FileParsed (reader.parse (asks strict) true [] 0 (view (now (text .entry)) (now (tokens .entry)) (now (kept .entry))))
+    ensures { λ r. ⌜ FileParsed (positions (now (tokens .entry)) (now (kept .entry))) (reader.parse (asks strict) true [] 0 (view (now (text .entry)) (now (tokens .entry)) (now (kept .entry))))
         (now (definitions .entry)) (now (statements .entry)) (now (arguments .entry)) r
         (now (definitions .exit)) (now (statements .exit)) (now (arguments .exit)) ⌝ }
 {
@@ -221,7 +221,7 @@ fn parse_many(
     arguments: &mut [u32],
 ) -> FileRead
     requires { ⌜ FromDoor (now tokens) (now kept) ⌝ }
-    ensures { λ r. ⌜ FileParsed (reader.parse (asks strict) true [] 0 (view (now (text .entry)) (now (tokens .entry)) (now (kept .entry))))
+    ensures { λ r. ⌜ FileParsed (positions (now (tokens .entry)) (now (kept .entry))) (reader.parse (asks strict) true [] 0 (view (now (text .entry)) (now (tokens .entry)) (now (kept .entry))))
         (now (definitions .entry)) (now (statements .entry)) (now (arguments .entry)) r
         (now (definitions .exit)) (now (statements .exit)) (now (arguments .exit)) ⌝ }
 {
@@ -253,7 +253,7 @@ pub fn read_definitions(
     arguments: &mut [u32],
 ) -> FileRead
     requires { ⌜ FromDoor (now tokens) (now kept) ⌝ }
-    ensures { λ r. ⌜ FileParsed (reader.parse (asks strict) true [] 0 (view (now (text .entry)) (now (tokens .entry)) (now (kept .entry))))
+    ensures { λ r. ⌜ FileParsed (positions (now (tokens .entry)) (now (kept .entry))) (reader.parse (asks strict) true [] 0 (view (now (text .entry)) (now (tokens .entry)) (now (kept .entry))))
         (now (definitions .entry)) (now (statements .entry)) (now (arguments .entry)) r
         (now (definitions .exit)) (now (statements .exit)) (now (arguments .exit)) ⌝ }
 {

@@ -6,6 +6,7 @@ use mathlib.Core.Logic.{_≢_, ⊎-elim}
 use mathlib.Core.Bool.{Bool, true, false}
 use mathlib.Core.List.{List}
 use Rattle.tokens.specs.Number.{definitionWidth, statementWidth, argumentWidth}
+use Rattle.tokens.specs.Place.{Positions}
 use Rattle.tokens.specs.Token.{Token, tokenAt}
 use Rattle.tokens.specs.Kind.{Eof, Function, Error, Takes, Returns, Indexed, Storage, Assign, OpenParen, CloseParen, OpenBrace, CloseBrace, Comma, Ident, PrimitiveType}
 use Rattle.grammar.specs.Reading.{NONE}
@@ -284,17 +285,17 @@ not-at-end (macroDefinedAt h k b c d e f) z = omega arith
 not-at-end (tableDefinedAt h k b c d e f g) z = omega arith
 
 -- a file up to its Eof: how many records it has, where it ends, and each of their words
-pub file-only : (kept : List Token) (r s t u v w : List ℕ) (d k k′ i n n′ a m m′ p q q′ : ℕ)
-    → FileTable kept r s t d k i n a m p q → Stands kept q Eof
-    → FileTable kept u v w d k′ i n′ a m′ p q′ → Stands kept q′ Eof
+pub file-only : (kept : List Token) (pos : Positions) (r s t u v w : List ℕ) (d k k′ i n n′ a m m′ p q q′ : ℕ)
+    → FileTable kept pos r s t d k i n a m p q → Stands kept q Eof
+    → FileTable kept pos u v w d k′ i n′ a m′ p q′ → Stands kept q′ Eof
     → (k ≡ k′) × (n ≡ n′) × (m ≡ m′) × (q ≡ q′)
     × SameRecords definitionWidth r u d k × SameRecords statementWidth s v i n × SameRecords argumentWidth t w a m
-file-only kept r s t u v w d k k′ i n n′ a m m′ p q q′ noDefinitions e noDefinitions e′ = (refl, refl, refl, refl, tt, tt, tt)
-file-only kept r s t u v w d k k′ i n n′ a m m′ p q q′ noDefinitions e (defined x′ h′ g′ rest′) e′ = absurd (not-at-end h′ e)
-file-only kept r s t u v w d k k′ i n n′ a m m′ p q q′ (defined x h g rest) e noDefinitions e′ = absurd (not-at-end h e′)
-file-only kept r s t u v w d k k′ i n n′ a m m′ p q q′ (defined {k = c} {n = y} {l = l} {m = z} {h = b} {e = o} x h g rest) e (defined {k = c′} {n = y′} {l = l′} {m = z′} {h = b′} {e = o′} x′ h′ g′ rest′) e′ =
+file-only kept pos r s t u v w d k k′ i n n′ a m m′ p q q′ noDefinitions e noDefinitions e′ = (refl, refl, refl, refl, tt, tt, tt)
+file-only kept pos r s t u v w d k k′ i n n′ a m m′ p q q′ noDefinitions e (defined x′ h′ g′ rest′) e′ = absurd (not-at-end h′ e)
+file-only kept pos r s t u v w d k k′ i n n′ a m m′ p q q′ (defined x h g rest) e noDefinitions e′ = absurd (not-at-end h e′)
+file-only kept pos r s t u v w d k k′ i n n′ a m m′ p q q′ (defined {k = c} {n = y} {l = l} {m = z} {h = b} {e = o} x h g rest) e (defined {k = c′} {n = y′} {l = l′} {m = z′} {h = b′} {e = o′} x′ h′ g′ rest′) e′ =
     let one = definition-only kept s t v w h h′ in
-    let later = file-only kept r s t u v w (suc d) c c′ (i + y) l l′ (a + z) b b′ o q q′ rest e (rw (sym (one .0), sym (one .1), sym (one .2)) at rest′) e′ in (
+    let later = file-only kept pos r s t u v w (suc d) c c′ (i + y) l l′ (a + z) b b′ o q q′ rest e (rw (sym (one .0), sym (one .1), sym (one .2)) at rest′) e′ in (
       omega arith,
       omega arith,
       omega arith,

@@ -5,11 +5,12 @@ use mathlib.Core.Path.{_≡_, refl, ap}
 use mathlib.Core.List.{List, [], _∷_, map}
 use lib.ListN.{length, length-append, length-map}
 use Rattle.tokens.specs.Number.{definitionWidth, statementWidth, argumentWidth}
+use Rattle.tokens.specs.Place.{Positions}
 use Rattle.grammar.specs.Reading.{Argument}
 use Rattle.grammar.specs.Records.{argumentRecord}
 use Rattle.grammar.specs.Facts.{All, HasWords}
 use Rattle.grammar.specs.FileReading.{Value, literalAt, pointerAt, TableSort, TableEntry, Form, anImport, aFunction, anEvent, aDefinedConstant, anError, aMacro, aTable, Definition}
-use Rattle.grammar.specs.FileRecords.{formArguments, entryRecords, formCount, formStatements, lastWords, behindDeclared, definitionRecord, definitionRecords, fileStatements, fileArguments, fileArgumentRecords, fileStatementCount}
+use Rattle.grammar.specs.FileRecords.{formArguments, entryRecords, formCount, formStatements, lastWords, behindDeclared, textRange, definitionRecord, definitionRecords, fileStatements, fileArguments, fileArgumentRecords, fileStatementCount}
 use Rattle.grammar.proofs.Lists.{all-append}
 use Rattle.grammar.proofs.Recorded.{as-many, as-wide}
 
@@ -28,10 +29,10 @@ form-many i a (anError args) = refl
 form-many i a (aMacro sort args tk rt r) = as-many i a r .0
 form-many i a (aTable sort es) = entries-many sort i a es
 
-definitions-many : (i a : ℕ) (ds : List Definition) → length (definitionRecords i a ds) ≡ length ds
+definitions-many : (pos : Positions) (i a : ℕ) (ds : List Definition) → length (definitionRecords pos i a ds) ≡ length ds
 unfolding definitionRecords
-definitions-many i a [] = refl
-definitions-many i a (d ∷ ds) = ap suc (definitions-many (i + formCount (d .form)) (a + length (formArguments (d .form))) ds)
+definitions-many pos i a [] = refl
+definitions-many pos i a (d ∷ ds) = ap suc (definitions-many pos (i + formCount (d .form)) (a + length (formArguments (d .form))) ds)
 
 statements-many : (i a : ℕ) (ds : List Definition) → length (fileStatements i a ds) ≡ fileStatementCount ds
 unfolding fileStatements fileStatementCount
@@ -45,10 +46,10 @@ statements-many i a (d ∷ ds) =
     )
 
 -- as many as counted
-pub file-as-many : (i a : ℕ) (ds : List Definition)
-    → (length (definitionRecords i a ds) ≡ length ds) × (length (fileStatements i a ds) ≡ fileStatementCount ds) × (length (fileArgumentRecords ds) ≡ length (fileArguments ds))
+pub file-as-many : (pos : Positions) (i a : ℕ) (ds : List Definition)
+    → (length (definitionRecords pos i a ds) ≡ length ds) × (length (fileStatements i a ds) ≡ fileStatementCount ds) × (length (fileArgumentRecords ds) ≡ length (fileArguments ds))
 unfolding fileArgumentRecords
-file-as-many i a ds = (definitions-many i a ds, statements-many i a ds, length-map (fileArguments ds) argumentRecord)
+file-as-many pos i a ds = (definitions-many pos i a ds, statements-many i a ds, length-map (fileArguments ds) argumentRecord)
 
 value-wide : (v : Value) → length (lastWords (aDefinedConstant v)) ≡ 2
 value-wide (literalAt p) = refl
@@ -63,12 +64,12 @@ last-wide (anError args) = refl
 last-wide (aMacro sort args tk rt r) = refl
 last-wide (aTable sort es) = refl
 
-definitions-wide : (i a : ℕ) (ds : List Definition) → All (HasWords definitionWidth) (definitionRecords i a ds)
+definitions-wide : (pos : Positions) (i a : ℕ) (ds : List Definition) → All (HasWords definitionWidth) (definitionRecords pos i a ds)
 unfolding definitionRecords definitionRecord
-definitions-wide i a [] = tt
-definitions-wide i a (d ∷ ds) = (
-  omega (arith, last-wide (d .form)),
-  definitions-wide (i + formCount (d .form)) (a + length (formArguments (d .form))) ds,
+definitions-wide pos i a [] = tt
+definitions-wide pos i a (d ∷ ds) = (
+  omega (arith, last-wide (d .form), length-append (lastWords (d .form)) (textRange pos d)),
+  definitions-wide pos (i + formCount (d .form)) (a + length (formArguments (d .form))) ds,
 )
 
 entries-wide : (sort : TableSort) (i a : ℕ) (es : List TableEntry) → All (HasWords statementWidth) (entryRecords sort i a es)
@@ -99,6 +100,6 @@ arguments-wide [] = tt
 arguments-wide (b ∷ bs) = (refl, arguments-wide bs)
 
 -- each as wide as it should be
-pub file-as-wide : (i a : ℕ) (ds : List Definition) → All (HasWords definitionWidth) (definitionRecords i a ds) × All (HasWords statementWidth) (fileStatements i a ds) × All (HasWords argumentWidth) (fileArgumentRecords ds)
+pub file-as-wide : (pos : Positions) (i a : ℕ) (ds : List Definition) → All (HasWords definitionWidth) (definitionRecords pos i a ds) × All (HasWords statementWidth) (fileStatements i a ds) × All (HasWords argumentWidth) (fileArgumentRecords ds)
 unfolding fileArgumentRecords
-file-as-wide i a ds = (definitions-wide i a ds, statements-wide i a ds, arguments-wide (fileArguments ds))
+file-as-wide pos i a ds = (definitions-wide pos i a ds, statements-wide i a ds, arguments-wide (fileArguments ds))

@@ -11,6 +11,7 @@ use mathlib.Core.List.{List, [], _∷_, _++_, map}
 use lib.ListN.{length, take, drop, length-append, length-drop, take-append-drop}
 use lib.Seq.{take-at, length-take-le}
 use Rattle.tokens.specs.Number.{definitionWidth, statementWidth, argumentWidth, labelType, importDefinition, macroDefinition, testDefinition, jumpTableDefinition, codeTableDefinition, errorDefinition}
+use Rattle.tokens.specs.Place.{Positions}
 use Rattle.tokens.specs.Token.{Token, tokenAt}
 use Rattle.tokens.specs.Kind.{Takes, Returns, Assign, OpenParen, CloseParen}
 use Rattle.grammar.specs.Reading.{Argument, Entry, Reading, NONE, arguments}
@@ -22,12 +23,12 @@ use Rattle.grammar.specs.FileReading.{Value, MacroSort, TableSort, Table
 use Rattle.grammar.specs.FileGrammar.{Optional, absent, present, Lone, lone, IsIndexed, IsName, TypedArgument, typed, TypedEntry, typedEntry, TypedList, typedList, Parens, parens, Counted, counting, FunctionType, ConstantValue, valueLiteral, valuePointer, MacroKind, isMacroKind, isFnKind, isTestKind, TableKind, isJump, isPacked, isCode, OneEntry, oneEntry, forgetEntry, tableBody, Sign, Rest, ofFunction, ofEvent, ofConstant, ofError, ofMacro, ofTable, Defined, include, define, rememberName, Fresh, fresh}
 use Rattle.grammar.specs.FileRecords.{macroNumber, tableNumber, entryType, entryRecords, formArguments, formCount, formStatements, valueWords, behindDeclared, definitionRecord, definitionRecords, fileStatements, fileArguments, fileArgumentRecords, fileStatementCount}
 use Rattle.grammar.specs.FileFollows.{FollowsFile}
-use Rattle.grammar.specs.Tables.{recordOf, NameWords, ParenTable, parenTable, Flat, Walk}
+use Rattle.grammar.specs.Tables.{recordOf, NameWords, ParenTable, parenTable, endWord, innerWord, Flat, Walk, arrived, onward}
 use Rattle.grammar.specs.FileTables.{Perhaps, nothingThere, oneThere, TypedWords, typedWords, CountAt, noCount, count, SignAt, noSign, sign, ValueAt, literalValue, pointerValue, MacroAt, macroAt, fnAt, testAt, EntryTable, noEntries, entry, TableAt, jumpTableAt, packedTableAt, codeTableAt, Head, Words, DefinitionAt, importAt, functionAt, eventAt, constantDefinedAt, errorAt, macroDefinedAt, tableDefinedAt, definitionWords, FileTable, noDefinitions, defined, Braced, StatementsOf}
 use Rattle.grammar.proofs.Standing.{Standing, standing-head, standing-tail, standing-front, standing-back}
 use Rattle.grammar.proofs.FileRecorded.{form-many}
 use Rattle.grammar.proofs.Demand.{body-some}
-use Rattle.grammar.proofs.Tabled.{Stored, stands-head, stored-front, stored-back, in-parens, name-tabled, name-rises, list-rises, arguments-front, arguments-back, body-tabled, body-walked}
+use Rattle.grammar.proofs.Tabled.{Stored, stands-head, stored-front, stored-back, in-parens, name-tabled, name-rises, list-rises, flat-rises, arguments-front, arguments-back, body-tabled, body-walked}
 
 -- what holds of the first token holds of the one at its place
 head-is : (kept : List Token) (p : ℕ) (t : Token) (xs : List Token) (K : Token → Type 0) → Standing kept p (t ∷ xs) → K t → K (tokenAt kept p)
@@ -123,18 +124,18 @@ follows m kept p bs r b h = (
 )
 
 -- a definition from place p on whose arguments and statements the tables hold, and its record
-abbrev Recorded : List Token → List ℕ → List ℕ → ℕ → ℕ → ℕ → Definition → Type 0
-Recorded kept statements table i a p d =
+abbrev Recorded : List Token → Positions → List ℕ → List ℕ → ℕ → ℕ → ℕ → Definition → Type 0
+Recorded kept pos statements table i a p d =
     (w : Words)
     × DefinitionAt kept statements table i (formCount (d .form)) a (length (formArguments (d .form))) p (d .end) w
-    × (definitionRecord i a d ≡ definitionWords i (formCount (d .form)) a p (d .end) w)
+    × (definitionRecord pos i a d ≡ definitionWords pos i (formCount (d .form)) a p (d .end) w)
 
-rest-tabled : (m : Rules) (kept : List Token) (statements table : List ℕ) (i a kind p : ℕ) (t : Token) (xs : List Token) (f : Form) → Head kept p kind → Rest m kind (suc (suc (suc p))) xs f → Standing kept (suc (suc (suc p))) xs
+rest-tabled : (m : Rules) (kept : List Token) (pos : Positions) (statements table : List ℕ) (i a kind p : ℕ) (t : Token) (xs : List Token) (f : Form) → Head kept p kind → Rest m kind (suc (suc (suc p))) xs f → Standing kept (suc (suc (suc p))) xs
     → Stored statementWidth statements i (formStatements i (behindDeclared a f) f)
     → Stored argumentWidth table a (map argumentRecord (formArguments f))
-    → Recorded kept statements table i a p (record { first = p; end = suc (suc (suc p)) + length xs; name = suc (suc p); token = t; form = f })
+    → Recorded kept pos statements table i a p (record { first = p; end = suc (suc (suc p)) + length xs; name = suc (suc p); token = t; form = f })
 unfolding formStatements formArguments formCount definitionRecord argumentRecords argumentCount
-rest-tabled m kept statements table i a kind p t xs f head (ofFunction {xs = us} {ys = vs} {inputs = inputs} {outputs = outputs} r e ins (lone {a = type} y k) g outs) h hs ha =
+rest-tabled m kept pos statements table i a kind p t xs f head (ofFunction {xs = us} {ys = vs} {inputs = inputs} {outputs = outputs} r e ins (lone {a = type} y k) g outs) h hs ha =
     let place : ℕ = suc (suc (suc p)) in
     let q : ℕ = place + length us in
     let hy = standing-back kept place us (y ∷ r ∷ vs) h in
@@ -149,26 +150,26 @@ rest-tabled m kept statements table i a kind p t xs f head (ofFunction {xs = us}
           (typed-parens false kept table (suc (suc q)) vs outputs (rw (add-one q) at outs) (standing-tail kept (suc q) r vs hr) (a + length inputs) (apart table (a + length inputs) outputs [] (two .1) .0))),
       refl,
     )
-rest-tabled m kept statements table i a kind p t xs f head (ofEvent {args = args} e ins) h hs ha = (
+rest-tabled m kept pos statements table i a kind p t xs f head (ofEvent {args = args} e ins) h hs ha = (
   _,
   definition-moved (omega (arith, length-append args [])) refl
       (eventAt (subst (Head kept p) e head) (typed-parens true kept table (suc (suc (suc p))) xs args ins h a (apart table a args [] ha .0))),
   refl,
 )
-rest-tabled m kept statements table i a kind p t xs f head (ofConstant {v = v} z e g (lone y k)) h hs ha =
+rest-tabled m kept pos statements table i a kind p t xs f head (ofConstant {v = v} z e g (lone y k)) h hs ha =
     let place : ℕ = suc (suc (suc p)) in
     let c = value-at kept (suc place) y v k (standing-tail kept place z (y ∷ []) h) in (
       _,
       definition-moved refl (omega arith) (constantDefinedAt (subst (Head kept p) e head) (stands-head kept place z (y ∷ []) h g) (c .1)),
       rw (c .2),
     )
-rest-tabled m kept statements table i a kind p t xs f head (ofError {args = args} e ins) h hs ha = (
+rest-tabled m kept pos statements table i a kind p t xs f head (ofError {args = args} e ins) h hs ha = (
   _,
   definition-moved (omega (arith, length-append args [])) refl
       (errorAt (subst (Head kept p) e head) (typed-parens false kept table (suc (suc (suc p))) xs args ins h a (apart table a args [] ha .0))),
   refl,
 )
-rest-tabled m kept statements table i a kind p t xs f head (ofMacro {takes = takes} {returns = returns} {sort = sort} {xs = us} {ts = ts} {rs = rs} {bs = bs} {args = args} {r = r} z k ins e tk rt b) h hs ha =
+rest-tabled m kept pos statements table i a kind p t xs f head (ofMacro {takes = takes} {returns = returns} {sort = sort} {xs = us} {ts = ts} {rs = rs} {bs = bs} {args = args} {r = r} z k ins e tk rt b) h hs ha =
     let place : ℕ = suc (suc (suc p)) in
     let q : ℕ = place + length us in
     let s : ℕ = suc q + length ts in
@@ -187,7 +188,7 @@ rest-tabled m kept statements table i a kind p t xs f head (ofMacro {takes = tak
           (body-tabled m kept (s + length rs) (length bs) r (follows m kept (s + length rs) bs r b hb) statements table i (a + length args) (rw (add-zero (a + length args)) at hs) (two .1))),
       refl,
     )
-rest-tabled m kept statements table i a kind p t xs f head (ofTable {u = u} {v = v} {w = w} {sort = sort} {os = os} {cs = cs} {zs = zs} {es = es} k o c z (tableBody {xs = us} x y e n g)) h hs ha =
+rest-tabled m kept pos statements table i a kind p t xs f head (ofTable {u = u} {v = v} {w = w} {sort = sort} {os = os} {cs = cs} {zs = zs} {es = es} k o c z (tableBody {xs = us} x y e n g)) h hs ha =
     let place : ℕ = suc (suc (suc p)) in
     let bs : List Token = x ∷ (us ++ (y ∷ [])) in
     let q : ℕ = place + length os in
@@ -209,17 +210,17 @@ rest-tabled m kept statements table i a kind p t xs f head (ofTable {u = u} {v =
       refl,
     )
 
-definition-tabled : (m : Rules) (kept : List Token) (statements table : List ℕ) (i a p : ℕ) (xs : List Token) (d : Definition) → Defined m p xs d → Standing kept p xs
+definition-tabled : (m : Rules) (kept : List Token) (pos : Positions) (statements table : List ℕ) (i a p : ℕ) (xs : List Token) (d : Definition) → Defined m p xs d → Standing kept p xs
     → Stored statementWidth statements i (formStatements i (behindDeclared a (d .form)) (d .form))
     → Stored argumentWidth table a (map argumentRecord (formArguments (d .form)))
-    → Recorded kept statements table i a p d
+    → Recorded kept pos statements table i a p d
 unfolding formArguments formCount definitionRecord
-definition-tabled m kept statements table i a p xs d (include t s e f) h hs ha =
+definition-tabled m kept pos statements table i a p xs d (include t s e f) h hs ha =
     (_, importAt (stands-head kept p t (s ∷ []) h e) (stands-head kept (suc p) s [] (standing-tail kept p t (s ∷ []) h) f), refl)
-definition-tabled m kept statements table i a p xs d (define {xs = us} {f = f} t k n e g r) h hs ha =
+definition-tabled m kept pos statements table i a p xs d (define {xs = us} {f = f} t k n e g r) h hs ha =
     let hk = standing-tail kept p t (k ∷ n ∷ us) h in
     let hn = standing-tail kept (suc p) k (n ∷ us) hk in
-    rest-tabled m kept statements table i a (k .kind) p n us f (record { defines = stands-head kept p t (k ∷ n ∷ us) h e; keyword = stands-head kept (suc p) k (n ∷ us) hk refl; named = stands-head kept (suc (suc p)) n us hn g })
+    rest-tabled m kept pos statements table i a (k .kind) p n us f (record { defines = stands-head kept p t (k ∷ n ∷ us) h e; keyword = stands-head kept (suc p) k (n ∷ us) hk refl; named = stands-head kept (suc (suc p)) n us hn g })
     r (standing-tail kept (suc (suc p)) n us hn) hs ha
 
 -- ---- files
@@ -229,40 +230,40 @@ defined-range : (m : Rules) (p : ℕ) (xs : List Token) (d : Definition) → Def
 defined-range m p xs d (include i s e f) = (refl, omega arith, omega arith)
 defined-range m p xs d (define t k n e f r) = (refl, omega arith, omega arith)
 
-file-moved : {kept : List Token} {definitions statements table : List ℕ} {d k i n a m p p′ q q′ : ℕ} → p ≡ p′ → q ≡ q′ → FileTable kept definitions statements table d k i n a m p q → FileTable kept definitions statements table d k i n a m p′ q′
+file-moved : {kept : List Token} {pos : Positions} {definitions statements table : List ℕ} {d k i n a m p p′ q q′ : ℕ} → p ≡ p′ → q ≡ q′ → FileTable kept pos definitions statements table d k i n a m p q → FileTable kept pos definitions statements table d k i n a m p′ q′
 file-moved f g h = rw g at (rw f at h)
 
-several-tabled : (m : Rules) (names : Bool) (kept : List Token) (definitions statements table : List ℕ) (seen : List (List ℕ)) (p : ℕ) (xs : List Token) (ds : List Definition) → Many rememberName (Fresh m names) seen p xs ds → Standing kept p xs
+several-tabled : (m : Rules) (names : Bool) (kept : List Token) (pos : Positions) (definitions statements table : List ℕ) (seen : List (List ℕ)) (p : ℕ) (xs : List Token) (ds : List Definition) → Many rememberName (Fresh m names) seen p xs ds → Standing kept p xs
     → (d i a : ℕ)
-    → Stored definitionWidth definitions d (definitionRecords i a ds)
+    → Stored definitionWidth definitions d (definitionRecords pos i a ds)
     → Stored statementWidth statements i (fileStatements i a ds)
     → Stored argumentWidth table a (map argumentRecord (fileArguments ds))
-    → FileTable kept definitions statements table d (length ds) i (fileStatementCount ds) a (length (fileArguments ds)) p (p + length xs)
+    → FileTable kept pos definitions statements table d (length ds) i (fileStatementCount ds) a (length (fileArguments ds)) p (p + length xs)
 unfolding definitionRecords fileStatements fileArguments fileStatementCount
-several-tabled m names kept definitions statements table seen p xs ds none h d i a hd hs ha = rw (add-zero p) noDefinitions
-several-tabled m names kept definitions statements table seen p xs ds (more {xs = us} {ys = vs} {a = c} {rs = es} (fresh x f) rest) h d i a hd hs ha =
+several-tabled m names kept pos definitions statements table seen p xs ds none h d i a hd hs ha = rw (add-zero p) noDefinitions
+several-tabled m names kept pos definitions statements table seen p xs ds (more {xs = us} {ys = vs} {a = c} {rs = es} (fresh x f) rest) h d i a hd hs ha =
     let mine : List (List ℕ) = formStatements i (behindDeclared a (c .form)) (c .form) in
     let n : ℕ = formCount (c .form) in
     let l : ℕ = length (formArguments (c .form)) in
     let two = apart table a (formArguments (c .form)) (fileArguments es) ha in
-    let this = definition-tabled m kept statements table i a p us c x (standing-front kept p us vs h) (stored-front statementWidth statements i mine (fileStatements (i + n) (a + l) es) hs) (two .0) in
+    let this = definition-tabled m kept pos statements table i a p us c x (standing-front kept p us vs h) (stored-front statementWidth statements i mine (fileStatements (i + n) (a + l) es) hs) (two .0) in
     let later = rw (form-many i (behindDeclared a (c .form)) (c .form)) at (stored-back statementWidth statements i mine (fileStatements (i + n) (a + l) es) hs) in
     rw (length-append (formArguments (c .form)) (fileArguments es))
     (defined {q = p + length (us ++ vs)} (this .0) (this .1) (hd .0 ∙ this .2)
     (file-moved (sym (defined-range m p us c x .1)) (omega (arith, length-append us vs))
-    (several-tabled m names kept definitions statements table (rememberName seen c) (p + length us) vs es rest (standing-back kept p us vs h) (suc d) (i + n) (a + l) (hd .1) later (two .1))))
+    (several-tabled m names kept pos definitions statements table (rememberName seen c) (p + length us) vs es rest (standing-back kept p us vs h) (suc d) (i + n) (a + l) (hd .1) later (two .1))))
 
 -- a file whose records the three tables hold
-pub file-tabled : (m : Rules) (names : Bool) (kept : List Token) (n : ℕ) (ds : List Definition) → FollowsFile m names kept n ds
+pub file-tabled : (m : Rules) (names : Bool) (kept : List Token) (pos : Positions) (n : ℕ) (ds : List Definition) → FollowsFile m names kept n ds
     → (definitions statements table : List ℕ)
-    → Stored definitionWidth definitions 0 (definitionRecords 0 0 ds)
+    → Stored definitionWidth definitions 0 (definitionRecords pos 0 0 ds)
     → Stored statementWidth statements 0 (fileStatements 0 0 ds)
     → Stored argumentWidth table 0 (fileArgumentRecords ds)
-    → FileTable kept definitions statements table 0 (length ds) 0 (fileStatementCount ds) 0 (length (fileArguments ds)) 0 n
+    → FileTable kept pos definitions statements table 0 (length ds) 0 (fileStatementCount ds) 0 (length (fileArguments ds)) 0 n
 unfolding fileArgumentRecords
-file-tabled m names kept n ds h definitions statements table hd hs ha =
+file-tabled m names kept pos n ds h definitions statements table hd hs ha =
     file-moved refl (omega (arith, length-take-le n kept (omega (arith, h .0))))
-    (several-tabled m names kept definitions statements table [] 0 (take n kept) ds (h .2) (drop n kept, sym (take-append-drop n kept)) 0 0 0 hd hs ha)
+    (several-tabled m names kept pos definitions statements table [] 0 (take n kept) ds (h .2) (drop n kept, sym (take-append-drop n kept)) 0 0 0 hd hs ha)
 
 -- ---- the ranges by the words alone
 
@@ -291,6 +292,52 @@ count-rises kept kind p q v (count x y z w) = omega arith
 sign-rises : (kept : List Token) (kind p q : ℕ) → SignAt kept kind p q → p ≤ q
 sign-rises kept kind p q noSign = omega arith
 sign-rises kept kind p q (sign x) = omega arith
+
+perhaps-rises : (kept : List Token) (K : Token → ℕ → Type 0) (d p q v : ℕ) → Perhaps kept K d p q v → p ≤ q
+perhaps-rises kept K d p q v nothingThere = omega arith
+perhaps-rises kept K d p q v (oneThere k) = omega arith
+
+typed-rises : (events : Bool) (kept : List Token) (p q : ℕ) (w : List ℕ) → TypedWords events kept p q w → p ≤ q
+typed-rises events kept p q w (typedWords {r = r} {s = s} {indexed = x} {location = l} {name = n} t i j o) =
+    omega (arith, perhaps-rises kept (IsIndexed events) 0 (suc p) r x i, perhaps-rises kept (λ t. Location (t .kind)) 0 r s l j, perhaps-rises kept (IsName s) NONE s q n o)
+
+typed-parens-rise : (events : Bool) (kept : List Token) (table : List ℕ) (a m p q : ℕ) → ParenTable (TypedWords events kept) kept table a m p q → p ≤ q
+typed-parens-rise events kept = parens-rise (TypedWords events kept) (typed-rises events kept) kept
+
+walk-rises : (statements : List ℕ) (i p j q : ℕ) → Walk statements i p j q → p ≤ q
+walk-rises statements i p j q arrived = omega arith
+walk-rises statements i p j q (onward e l h rest) = omega (arith, l, walk-rises statements (suc i + innerWord statements i) (endWord statements i) j q rest)
+
+-- a definition has a token
+pub definition-rises : (kept : List Token) (statements table : List ℕ) (i n a m p e : ℕ) (w : Words) → DefinitionAt kept statements table i n a m p e w → p < e
+definition-rises kept statements table i n a m p e w (importAt x y) = omega arith
+definition-rises kept statements table i n a m p e w (functionAt {m = l} {k = k} {q = q} x y z u v) =
+    omega (arith, typed-parens-rise false kept table a l (suc (suc (suc p))) q y, typed-parens-rise false kept table (a + l) k (suc (suc q)) e v)
+definition-rises kept statements table i n a m p e w (eventAt x y) = omega (arith, typed-parens-rise true kept table a m (suc (suc (suc p))) e y)
+definition-rises kept statements table i n a m p e w (constantDefinedAt x y z) = omega arith
+definition-rises kept statements table i n a m p e w (errorAt x y) = omega (arith, typed-parens-rise false kept table a m (suc (suc (suc p))) e y)
+definition-rises kept statements table i n a m p e w (macroDefinedAt {m = l} {h = h} {q = q} {r = r} {s = s} {takes = takes} {returns = returns} x k y z t u b) =
+    omega (
+      arith,
+      parens-rise (NameWords kept) (name-rises kept) kept table a l (suc (suc (suc p))) q y,
+      count-rises kept Takes (suc q) r takes t,
+      count-rises kept Returns r s returns u,
+      walk-rises statements i (suc s) (i + n) (e - 1) (body-walked kept statements table i n (a + l) h s e b .2),
+    )
+definition-rises kept statements table i n a m p e w (tableDefinedAt {q = q} {r = r} {s = s} {e = d} {kind = kind} {number = number} {type = type} {size = size} {digits = digits} x k y z t o b c) =
+    omega (
+      arith,
+      sign-rises kept OpenParen (suc (suc (suc p))) q y,
+      sign-rises kept CloseParen q r z,
+      sign-rises kept Assign r s t,
+      flat-rises statements i n (suc s) d (entries-flat kept statements type a i n (suc s) d digits (table-numbers kind n digits number type size k .2) b),
+    )
+
+-- nor does a file
+pub file-rises : (kept : List Token) (pos : Positions) (definitions statements table : List ℕ) (d k i n a m p q : ℕ) → FileTable kept pos definitions statements table d k i n a m p q → p ≤ q
+file-rises kept pos definitions statements table d k i n a m p q noDefinitions = omega arith
+file-rises kept pos definitions statements table d k i n a m p q (defined {k = o} {n = c} {l = t} {m = l} {h = g} {e = e} w x r rest) =
+    omega (arith, definition-rises kept statements table i c a l p e w x, file-rises kept pos definitions statements table (suc d) o (i + c) t (a + l) g e q rest)
 
 -- what StatementsOf says, of the record's words
 record Said (kept : List Token) (statements : List ℕ) (i n p e kind : ℕ) : Type 0 where
@@ -333,22 +380,22 @@ definition-said kept statements table i n a m p e w (tableDefinedAt {q = q} {r =
       ofOther = λ f. absurd (omega arith);
     }
 
-definition-walked : (kept : List Token) (definitions statements table : List ℕ) (d i n a m p e : ℕ) (w : Words) → DefinitionAt kept statements table i n a m p e w → recordOf definitionWidth definitions d ≡ definitionWords i n a p e w
+definition-walked : (kept : List Token) (pos : Positions) (definitions statements table : List ℕ) (d i n a m p e : ℕ) (w : Words) → DefinitionAt kept statements table i n a m p e w → recordOf definitionWidth definitions d ≡ definitionWords pos i n a p e w
     → StatementsOf kept definitions statements d
-definition-walked kept definitions statements table d i n a m p e w h r =
+definition-walked kept pos definitions statements table d i n a m p e w h r =
     let said = definition-said kept statements table i n a m p e w h in
     record { least = rw r (said .least); most = rw r (said .most); ofMacro = rw r (said .ofMacro); ofTable = rw r (said .ofTable); ofOther = rw r (said .ofOther) }
 
-walked : (kept : List Token) (definitions statements table : List ℕ) (d k i n a m p q : ℕ) → FileTable kept definitions statements table d k i n a m p q
+walked : (kept : List Token) (pos : Positions) (definitions statements table : List ℕ) (d k i n a m p q : ℕ) → FileTable kept pos definitions statements table d k i n a m p q
     → (j : ℕ) → j < k → StatementsOf kept definitions statements (d + j)
-walked kept definitions statements table d k i n a m p q noDefinitions j below = absurd (omega arith)
-walked kept definitions statements table d k i n a m p q (defined {n = c} {m = l} {e = e} w x r rest) zero below =
-    rw (add-zero d) (definition-walked kept definitions statements table d i c a l p e w x r)
-walked kept definitions statements table d k i n a m p q (defined {k = o} {n = c} {l = t} {m = l} {h = g} {e = e} w x r rest) (suc j) below =
-    rw (add-suc d j, ← suc-add d j) (walked kept definitions statements table (suc d) o (i + c) t (a + l) g e q rest j (omega arith))
+walked kept pos definitions statements table d k i n a m p q noDefinitions j below = absurd (omega arith)
+walked kept pos definitions statements table d k i n a m p q (defined {n = c} {m = l} {e = e} w x r rest) zero below =
+    rw (add-zero d) (definition-walked kept pos definitions statements table d i c a l p e w x r)
+walked kept pos definitions statements table d k i n a m p q (defined {k = o} {n = c} {l = t} {m = l} {h = g} {e = e} w x r rest) (suc j) below =
+    rw (add-suc d j, ← suc-add d j) (walked kept pos definitions statements table (suc d) o (i + c) t (a + l) g e q rest j (omega arith))
 
 -- the statements of each definition, by the words alone but for the braces
-pub file-walked : (kept : List Token) (definitions statements table : List ℕ) (k n m q : ℕ) → FileTable kept definitions statements table 0 k 0 n 0 m 0 q
+pub file-walked : (kept : List Token) (pos : Positions) (definitions statements table : List ℕ) (k n m q : ℕ) → FileTable kept pos definitions statements table 0 k 0 n 0 m 0 q
     → (d : ℕ) → d < k → StatementsOf kept definitions statements d
-file-walked kept definitions statements table k n m q h d below =
-    rw (zero-add d) at (walked kept definitions statements table 0 k 0 n 0 m 0 q h d below)
+file-walked kept pos definitions statements table k n m q h d below =
+    rw (zero-add d) at (walked kept pos definitions statements table 0 k 0 n 0 m 0 q h d below)

@@ -26,5 +26,6 @@ pub mod FileBounds
 pub mod Lengths
 pub mod Tabled
 pub mod FileTabled
+pub mod TextRanges
 pub mod Only
 pub mod FileOnly

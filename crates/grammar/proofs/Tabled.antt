@@ -299,7 +299,7 @@ statement-rises kept table a m p q type place (constantAt h i j) = omega arith
 statement-rises kept table a m p q type place (argumentCallAt h i j) = omega arith
 statement-rises kept table a m p q type place (builtinAt h (parenTable {q = e} o l c)) = omega (arith, list-rises (BuiltinWords kept) (builtin-rises kept) kept table a m (suc (suc p)) e l)
 
-flat-rises : (statements : List ℕ) (i n p q : ℕ) → Flat statements i n p q → p ≤ q
+pub flat-rises : (statements : List ℕ) (i n p q : ℕ) → Flat statements i n p q → p ≤ q
 flat-rises statements i zero p q h = omega arith
 flat-rises statements i (suc n) p q h = omega (arith, h .3, flat-rises statements (suc i) n (endWord statements i) q (h .4))
 

@@ -1,14 +1,17 @@
--- Document 01, "Bodies and files on both sides": the rows of files, input and answer side by side, further files, and those of request [1]. Eof follows each.
-use Prim.Native.Nat.{ℕ}
+-- Document 01, "Bodies and files on both sides": the rows of files, input and answer side by side, further files, and those of requests [1] and [7]. Eof follows each.
+use Prim.Native.Nat.{ℕ, _+_, _-_}
 use Prim.Native.String.{String}
-use mathlib.Core.List.{List, [], _∷_, _++_}
+use mathlib.Core.List.{List, [], _∷_, _++_, map}
+use lib.ListN.{length, getD}
+use Rattle.tokens.specs.Byte.{bytes}
 use Rattle.tokens.specs.Token.{Token}
-use Rattle.tokens.specs.Kind.{Eof, Include, Define, Pound, Macro, Fn, Test, Function, Event, Constant, Error, JumpTable, JumpTablePacked, CodeTable, Takes, Returns, View, Indexed, Calldata, Memory, Assign, OpenParen, CloseParen, OpenBrace, CloseBrace, Comma, Colon, FreeStoragePointer, Ident, Label, Literal, Str, PrimitiveType}
+use Rattle.tokens.specs.Place.{Positions}
+use Rattle.tokens.specs.Kind.{Eof, Whitespace, Comment, Include, Define, Pound, Macro, Fn, Test, Function, Event, Constant, Error, JumpTable, JumpTablePacked, CodeTable, Takes, Returns, View, Indexed, Calldata, Memory, Assign, OpenParen, CloseParen, OpenBrace, CloseBrace, Comma, Colon, FreeStoragePointer, Ident, Label, Literal, Str, PrimitiveType}
 use Rattle.grammar.specs.Reading.{NONE}
 use Rattle.grammar.specs.FileReading.{Definition}
 use Rattle.grammar.specs.FileRecords.{definitionRecords, fileStatements, fileArgumentRecords}
 use Rattle.grammar.specs.Result.{Answer}
-use Rattle.grammar.specs.Call.{refusal, refusalOf, fileNumbers, recordsOf}
+use Rattle.grammar.specs.Call.{acceptance, refusal, refusalOf, fileNumbers, recordsOf}
 use Rattle.grammar.specs.Cases.{Sketch, mark, word, num, PUSH1}
 
 -- what a file call answers: number, cursor, definitions, statements, arguments, type, size; and the records of the three tables
@@ -18,33 +21,40 @@ pub record FileOutcome : Type 0 where
   pub statements : List (List ℕ)
   pub arguments : List (List ℕ)
 
--- of an answer for these kept tokens, where the tables have room
-abbrev pub fileOutcome : List Token → Answer (List Definition) → FileOutcome
-fileOutcome kept x =
+-- of an answer for these kept tokens, which stand so in the text, where the tables have room
+abbrev pub fileOutcome : List Token → Positions → Answer (List Definition) → FileOutcome
+fileOutcome kept pos x =
     record {
       answers = fileNumbers kept x;
-      definitions = recordsOf (definitionRecords 0 0) x;
+      definitions = recordsOf (definitionRecords pos 0 0) x;
       statements = recordsOf (fileStatements 0 0) x;
       arguments = recordsOf fileArgumentRecords x;
     }
 
--- a row: the tokens before Eof, and the outcome
+-- a row: the tokens before Eof, and the outcome, wherever they stand in the text
 pub record FileRow : Type 0 where
   pub input : List Sketch
-  pub outcome : FileOutcome
+  pub outcome : Positions → FileOutcome
 
 -- a file and its Eof
 abbrev pub ended : List Sketch → List Sketch
 ended ts = ts ++ (mark Eof ∷ [])
 
--- a row that is accepted: cursor and counts; definition, statement and argument records
+-- request [7]: a definition record of which a row has all words but the last two: where the first token of its range starts, and where the last one ends
+abbrev pub placed : Positions → List ℕ → List ℕ
+placed pos words = words ++ (pos .start (getD words 2 0) ∷ pos .end (getD words 3 0 - 1) ∷ [])
+
+-- a row that is accepted: cursor and counts; definition records without their last two words; statement and argument records
 abbrev pub acceptedFile : List Sketch → List ℕ → List (List ℕ) → List (List ℕ) → List (List ℕ) → FileRow
 acceptedFile input answers definitions statements arguments =
-    record { input = input; outcome = record { answers = 0 ∷ (answers ++ (0 ∷ 0 ∷ [])); definitions = definitions; statements = statements; arguments = arguments } }
+    record {
+      input = input;
+      outcome = λ pos. record { answers = 0 ∷ (answers ++ (0 ∷ 0 ∷ [])); definitions = map (placed pos) definitions; statements = statements; arguments = arguments };
+    }
 
 -- a row that is refused: the answer
 abbrev pub refusedFileWith : List Sketch → List ℕ → FileRow
-refusedFileWith input answers = record { input = input; outcome = record { answers = answers; definitions = []; statements = []; arguments = [] } }
+refusedFileWith input answers = record { input = input; outcome = λ pos. record { answers = answers; definitions = []; statements = []; arguments = [] } }
 
 -- number and cursor, and no type
 abbrev pub refusalFile : List Sketch → ℕ → ℕ → FileRow
@@ -172,4 +182,57 @@ strictFiles =
     ∷ refusalFile (macroOf "M" [] ++ macroOf "M" (word Label "a" ∷ mark Colon ∷ word Label "a" ∷ mark Colon ∷ [])) 22 17
     -- a label's push in a fn
     ∷ refusalFile (head Fn (word Ident "F") (mark OpenParen ∷ mark CloseParen ∷ mark Assign ∷ mark OpenBrace ∷ word Label "a" ∷ mark Colon ∷ PUSH1 ∷ mark CloseBrace ∷ [])) 4 10
+    ∷ []
+
+-- ---- request [7]: files by their bytes
+
+-- a text cut into tokens, white space and comments among them: kind and letters of each. One behind the other the letters are the text
+abbrev pub Cut : Type 0
+Cut = List (ℕ × String)
+
+unfoldable pub textOf : Cut → List ℕ
+textOf [] = []
+textOf (c ∷ cs) = bytes (c .1) ++ textOf cs
+
+-- the words of its tokens, the first of which starts at byte b, and of Eof
+unfoldable pub wordsFrom : ℕ → Cut → List ℕ
+wordsFrom b [] = Eof ∷ b ∷ b ∷ 0 ∷ []
+wordsFrom b (c ∷ cs) = c .0 ∷ b ∷ (b + length (bytes (c .1))) ∷ 0 ∷ wordsFrom (b + length (bytes (c .1))) cs
+
+-- a row: the text, and the outcome
+pub record TextRow : Type 0 where
+  pub cut : Cut
+  pub outcome : FileOutcome
+
+-- a row without statements and arguments, which is accepted: cursor and definition records
+abbrev pub acceptedText : Cut → ℕ → List (List ℕ) → TextRow
+acceptedText cut cursor definitions =
+    record { cut = cut; outcome = record { answers = acceptance cursor (length definitions) 0 0; definitions = definitions; statements = []; arguments = [] } }
+
+abbrev pub space : ℕ × String
+space = (Whitespace, " ")
+
+-- #define constant C = 0x01
+abbrev pub aConstant : Cut
+aConstant = (Define, "#define") ∷ space ∷ (Constant, "constant") ∷ space ∷ (Ident, "C") ∷ space ∷ (Assign, "=") ∷ space ∷ (Literal, "0x01") ∷ []
+
+-- #define macro M()={}
+abbrev pub aBareMacro : Cut
+aBareMacro = (Define, "#define") ∷ space ∷ (Macro, "macro") ∷ space ∷ (Ident, "M") ∷ (OpenParen, "(") ∷ (CloseParen, ")") ∷ (Assign, "=") ∷ (OpenBrace, "{") ∷ (CloseBrace, "}") ∷ []
+
+-- from byte 0 up to 25
+abbrev pub oneConstant : TextRow
+oneConstant = acceptedText aConstant 5 ((4 ∷ 2 ∷ 0 ∷ 5 ∷ 0 ∷ 0 ∷ 0 ∷ 0 ∷ 0 ∷ 0 ∷ 1 ∷ 4 ∷ 0 ∷ 25 ∷ []) ∷ [])
+
+abbrev pub textRows : List TextRow
+textRows =
+    oneConstant
+    -- behind a comment of seven bytes both move by seven; white space behind moves nothing
+    ∷ acceptedText ((Comment, "/*fee*/") ∷ (aConstant ++ ((Whitespace, "   ") ∷ []))) 5 ((4 ∷ 2 ∷ 0 ∷ 5 ∷ 0 ∷ 0 ∷ 0 ∷ 0 ∷ 0 ∷ 0 ∷ 1 ∷ 4 ∷ 7 ∷ 32 ∷ []) ∷ [])
+    -- what stands between two lies in neither range
+    ∷ acceptedText (aConstant ++ ((Comment, "/**/") ∷ space ∷ aConstant)) 10
+    ((4 ∷ 2 ∷ 0 ∷ 5 ∷ 0 ∷ 0 ∷ 0 ∷ 0 ∷ 0 ∷ 0 ∷ 1 ∷ 4 ∷ 0 ∷ 25 ∷ []) ∷ (4 ∷ 7 ∷ 5 ∷ 10 ∷ 0 ∷ 0 ∷ 0 ∷ 0 ∷ 0 ∷ 0 ∷ 1 ∷ 9 ∷ 30 ∷ 55 ∷ []) ∷ [])
+    -- where nothing stands between them, one ends where the next starts
+    ∷ acceptedText (aBareMacro ++ aConstant) 13
+    ((6 ∷ 2 ∷ 0 ∷ 8 ∷ 0 ∷ 0 ∷ 0 ∷ 0 ∷ 0 ∷ 0 ∷ 0 ∷ 0 ∷ 0 ∷ 20 ∷ []) ∷ (4 ∷ 10 ∷ 8 ∷ 13 ∷ 0 ∷ 0 ∷ 0 ∷ 0 ∷ 0 ∷ 0 ∷ 1 ∷ 12 ∷ 20 ∷ 45 ∷ []) ∷ [])
     ∷ []

@@ -1,9 +1,10 @@
--- Document 01, "Records": the words of a file's records. Numbers of records are those of the call's whole table, so each definition takes how many
+-- Document 01, "Records", and request [7]: the words of a file's records. Numbers of records are those of the call's whole table, so each definition takes how many
 -- statement records (i) and argument records (a) stand before.
-use Prim.Native.Nat.{ℕ, suc, _+_}
+use Prim.Native.Nat.{ℕ, suc, _+_, _-_}
 use mathlib.Core.List.{List, [], _∷_, _++_, map}
 use lib.ListN.{length}
 use Rattle.tokens.specs.Number.{importDefinition, functionDefinition, eventDefinition, constantDefinition, errorDefinition, macroDefinition, fnDefinition, testDefinition, jumpTableDefinition, packedTableDefinition, codeTableDefinition, labelCallType, codeType}
+use Rattle.tokens.specs.Place.{Positions}
 use Rattle.grammar.specs.Reading.{Argument}
 use Rattle.grammar.specs.Records.{argumentRecord, allArguments, statementRecords, statementCount}
 use Rattle.grammar.specs.FileReading.{Value, literalAt, pointerAt, MacroSort, theMacro, theFn, theTest, TableSort, jumpTable, packedTable, codeTable, TableEntry, Form, anImport, aFunction, anEvent, aDefinedConstant, anError, aMacro, aTable, Definition, sizeOf}
@@ -115,9 +116,13 @@ lastWords (aTable sort es) = sizeOf sort es ∷ 0 ∷ []
 abbrev pub behindDeclared : ℕ → Form → ℕ
 behindDeclared a f = a + length (inputsOf f) + length (outputsOf f)
 
--- kind, name place, first, end, first argument, arguments, first output, outputs, first statement, statements, A, B
-unfoldable pub definitionRecord : ℕ → ℕ → Definition → List ℕ
-definitionRecord i a d =
+-- request [7], in bytes of the text: "its first token's start and its last token's end"
+abbrev pub textRange : Positions → Definition → List ℕ
+textRange pos d = pos .start (d .first) ∷ pos .end (d .end - 1) ∷ []
+
+-- kind, name place, first, end, first argument, arguments, first output, outputs, first statement, statements, A, B, start and end in the text
+unfoldable pub definitionRecord : Positions → ℕ → ℕ → Definition → List ℕ
+definitionRecord pos i a d =
     kindNumber (d .form)
     ∷ d .name
     ∷ d .first
@@ -128,13 +133,13 @@ definitionRecord i a d =
     ∷ length (outputsOf (d .form))
     ∷ i
     ∷ formCount (d .form)
-    ∷ lastWords (d .form)
+    ∷ (lastWords (d .form) ++ textRange pos d)
 
 -- the definition records of a file, behind i statement and a argument records
-unfoldable pub definitionRecords : ℕ → ℕ → List Definition → List (List ℕ)
-definitionRecords i a [] = []
-definitionRecords i a (d ∷ ds) =
-    definitionRecord i a d ∷ definitionRecords (i + formCount (d .form)) (a + length (formArguments (d .form))) ds
+unfoldable pub definitionRecords : Positions → ℕ → ℕ → List Definition → List (List ℕ)
+definitionRecords pos i a [] = []
+definitionRecords pos i a (d ∷ ds) =
+    definitionRecord pos i a d ∷ definitionRecords pos (i + formCount (d .form)) (a + length (formArguments (d .form))) ds
 
 -- its statement records
 unfoldable pub fileStatements : ℕ → ℕ → List Definition → List (List ℕ)

@@ -1,5 +1,6 @@
 -- What a reader of the tables relies on, for files: each word of each definition record of an accepted call, and of the records it points at, said by the tokens
--- at its places: their kinds, a Num's number, the length of an entry's text, and that the name of an argument with a type is not reserved. No reading and no parser
+-- at its places: their kinds, a Num's number, the length of an entry's text, that the name of an argument with a type is not reserved, and where the first and the
+-- last token of a definition stand in the text. No reading and no parser
 -- stands here. The numbers of a family are those of Tables: `i n` statements, `a m` arguments, `p q` the range.
 use Prim.Native.Nat.{ℕ, suc, _+_, _-_, _*_, _/_, _≤_, _<_}
 use mathlib.Core.Path.{_≡_}
@@ -8,6 +9,7 @@ use mathlib.Core.List.{List, [], _∷_}
 use lib.ListN.{length, getD}
 use Rattle.tokens.specs.Number.{definitionWidth, statementWidth, nameForm, labelCallType, codeType, importDefinition, functionDefinition, eventDefinition, constantDefinition, errorDefinition, macroDefinition, fnDefinition, testDefinition, jumpTableDefinition, packedTableDefinition, codeTableDefinition}
 use Rattle.tokens.specs.Token.{Token, tokenAt}
+use Rattle.tokens.specs.Place.{Positions}
 use Rattle.tokens.specs.Kind.{Include, Define, Macro, Fn, Test, Function, Event, Constant, Error, JumpTable, JumpTablePacked, CodeTable, Takes, Returns, Assign, OpenParen, CloseParen, OpenBrace, CloseBrace, FreeStoragePointer, Ident, Literal, Num, Str, PrimitiveType}
 use Rattle.grammar.specs.Reading.{NONE}
 use Rattle.grammar.specs.Grammar.{Location}
@@ -134,19 +136,20 @@ pub data DefinitionAt (kept : List Token) (statements arguments : List ℕ) (i :
       → Stands kept e CloseBrace
       → DefinitionAt kept statements arguments i n a 0 p (suc e) (words p number 0 0 size 0)
 
--- kind, name place, first, end, first argument, arguments, first output, outputs, first statement, statements, A, B
-abbrev pub definitionWords : ℕ → ℕ → ℕ → ℕ → ℕ → Words → List ℕ
-definitionWords i n a p q w =
-    w .kind ∷ w .name ∷ p ∷ q ∷ a ∷ w .inputs ∷ (a + w .inputs) ∷ w .outputs ∷ i ∷ n ∷ w .A ∷ w .B ∷ []
+-- kind, name place, first, end, first argument, arguments, first output, outputs, first statement, statements, A, B; where the token at p starts in the text, and
+-- where the one before q ends
+abbrev pub definitionWords : Positions → ℕ → ℕ → ℕ → ℕ → ℕ → Words → List ℕ
+definitionWords pos i n a p q w =
+    w .kind ∷ w .name ∷ p ∷ q ∷ a ∷ w .inputs ∷ (a + w .inputs) ∷ w .outputs ∷ i ∷ n ∷ w .A ∷ w .B ∷ pos .start p ∷ pos .end (q - 1) ∷ []
 
 -- definitions one behind the other: k definition records from number d on, then `i n a m p q`
-pub data FileTable (kept : List Token) (definitions statements arguments : List ℕ) : ℕ → ℕ → ℕ → ℕ → ℕ → ℕ → ℕ → ℕ → Type 0 where
-  noDefinitions : {d i a p : ℕ} → FileTable kept definitions statements arguments d 0 i 0 a 0 p p
+pub data FileTable (kept : List Token) (pos : Positions) (definitions statements arguments : List ℕ) : ℕ → ℕ → ℕ → ℕ → ℕ → ℕ → ℕ → ℕ → Type 0 where
+  noDefinitions : {d i a p : ℕ} → FileTable kept pos definitions statements arguments d 0 i 0 a 0 p p
   defined : {d k i n l a m h p e q : ℕ} (w : Words)
       → DefinitionAt kept statements arguments i n a m p e w
-      → recordOf definitionWidth definitions d ≡ definitionWords i n a p e w
-      → FileTable kept definitions statements arguments (suc d) k (i + n) l (a + m) h e q
-      → FileTable kept definitions statements arguments d (suc k) i (n + l) a (m + h) p q
+      → recordOf definitionWidth definitions d ≡ definitionWords pos i n a p e w
+      → FileTable kept pos definitions statements arguments (suc d) k (i + n) l (a + m) h e q
+      → FileTable kept pos definitions statements arguments d (suc k) i (n + l) a (m + h) p q
 
 -- ---- the ranges by the words alone, but for a body's braces
 

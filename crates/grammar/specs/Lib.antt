@@ -23,5 +23,6 @@ pub mod Typed
 pub mod Call
 pub mod Tables
 pub mod FileTables
+pub mod TextRanges
 pub mod Written
 pub mod Again

@@ -12,7 +12,7 @@ use lib.ListN.{length, getD, take, drop, length-append}
 use lib.Seq.{sets-eq, take-at}
 use Rattle.tokens.specs.Kind.{kinds}
 use Rattle.tokens.specs.Token.{tokenCount, kindOf, startOf, endOf, extraOf}
-use Rattle.tokens.specs.Place.{fieldAt, Lined, FromDoor, Place}
+use Rattle.tokens.specs.Place.{fieldAt, endAt, Lined, FromDoor, Place}
 use Rattle.tokens.specs.WellFormed.{wholeGood, prevEnd, rangeGood, eofGood, contentsGood, goodAfter, good, WellFormed}
 use Rattle.tokens.specs.Kept.{keptOf}
 use Rattle.tokens.proofs.Laws.{and-left, and-right}
@@ -88,7 +88,12 @@ field-is : (j : ℕ) (words kept : List ℕ) (p : ℕ) → p < length kept → f
 unfolding fieldAt
 field-is j words kept p h = rw (lt-ltb _ _ h)
 
-lined-kept : (text words : List ℕ) → WellFormed text words → Lined words (keptOf words)
+-- a kept token ends within the text
+pub kept-within : (text words : List ℕ) → WellFormed text words → (p : ℕ) → p < length (keptOf words) → endAt words (keptOf words) p ≤ length text
+kept-within text words formed p h =
+    rw (field-is 2 words (keptOf words) p h) (ranged text words formed (getD (keptOf words) p 0) (omega (arith, kept-rising words .high p h)) .within)
+
+pub lined-kept : (text words : List ℕ) → WellFormed text words → Lined words (keptOf words)
 lined-kept text words formed =
     record {
       range = λ p h.
@@ -100,10 +105,7 @@ lined-kept text words formed =
           let here : p < length (keptOf words) = omega arith in
           rw (field-is 2 words (keptOf words) p here, field-is 1 words (keptOf words) (suc p) h)
           (ends-before text words formed (getD (keptOf words) p 0) (getD (keptOf words) (suc p) 0) (r .rises p h) (omega (arith, r .high (suc p) h)));
-      end = λ p h.
-          let r = kept-rising words in
-          rw (field-is 2 words (keptOf words) p h)
-          (omega (arith, short text words formed, ranged text words formed (getD (keptOf words) p 0) (omega (arith, r .high p h)) .within));
+      end = λ p h. omega (arith, short text words formed, kept-within text words formed p h);
     }
 
 -- what a well-formed list of so few tokens leaves

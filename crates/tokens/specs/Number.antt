@@ -135,7 +135,7 @@ abbrev pub tokenWidth : ℕ
 tokenWidth = 4
 
 abbrev pub definitionWidth : ℕ
-definitionWidth = 12
+definitionWidth = 14
 
 abbrev pub statementWidth : ℕ
 statementWidth = 8

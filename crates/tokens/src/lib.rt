@@ -28,6 +28,8 @@ pub use name::type_told;
 pub use push::is_value_push;
 pub use push::push_overflows;
 pub use push::push_size;
+pub use token::end_at;
 pub use token::extra_at;
 pub use token::kind_at;
+pub use token::start_at;
 pub use token::text_at;

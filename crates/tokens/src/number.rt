@@ -173,7 +173,7 @@ pub const NO_LENGTH: usize = NONE as usize;
 // The words of a token and of each record.
 pub const TOKEN_WIDTH: usize = 4;
 
-pub const DEFINITION_WIDTH: usize = 12;
+pub const DEFINITION_WIDTH: usize = 14;
 
 pub const STATEMENT_WIDTH: usize = 8;
 

@@ -29,7 +29,7 @@ pub fn kind_at(tokens: &[u32], kept: &[u32], p: usize) -> u32
 }
 
 // Where the text of the token at place p starts.
-fn start_at(tokens: &[u32], kept: &[u32], p: usize) -> u32
+pub fn start_at(tokens: &[u32], kept: &[u32], p: usize) -> u32
     requires { ⌜ Numbered (now tokens) (now kept) ⌝ }
     ensures { λ r. ⌜ r ≡ startAt (now (tokens .entry)) (now (kept .entry)) p ⌝ }
 {
@@ -37,7 +37,7 @@ fn start_at(tokens: &[u32], kept: &[u32], p: usize) -> u32
 }
 
 // Where it ends.
-fn end_at(tokens: &[u32], kept: &[u32], p: usize) -> u32
+pub fn end_at(tokens: &[u32], kept: &[u32], p: usize) -> u32
     requires { ⌜ Numbered (now tokens) (now kept) ⌝ }
     ensures { λ r. ⌜ r ≡ endAt (now (tokens .entry)) (now (kept .entry)) p ⌝ }
 {

@@ -1,7 +1,6 @@
-use borrow.Author.Needs.{needs}
-use mathlib.Core.Path.{refl}
-use Rattle.tokens.specs.Token.{view}
+use native.Mathlib.Omega.{arith}
 use Rattle.definitions.proofs.DefinitionLaws.{added, added-refused}
+use borrow.Author.Needs.{needs}
 use Rattle.definitions.proofs.definition.read_definition.Statement.{statement}
 use Rattle.definitions.proofs.definition.read_definition.Tie as tie
 
@@ -13,6 +12,21 @@ enum-known-c c = search needs
 
 enum-known-d : tie.Need-enum-known-d
 enum-known-d c = search needs
+
+cast-start-at : tie.Need-cast-start-at
+cast-start-at c = search needs
+
+start-at-requires : tie.Need-start-at-requires
+start-at-requires c κs = c .before .before .before .before .before .before .before .before .before .before .before .before .before .before .before .before .before .pre .list .numbered
+
+cast-end-at : tie.Need-cast-end-at
+cast-end-at c = search needs
+
+sub-end-at : tie.Need-sub-end-at
+sub-end-at c = omega (arith, (rw (c .before .before .before .before .d .given .1) at (c .before .before .before .before .before .before .before .before .before .before .top-level .ensures)) .within .0)
+
+end-at-requires : tie.Need-end-at-requires
+end-at-requires c κs = c .before .before .before .before .before .before .before .before .before .before .before .before .before .before .before .before .before .before .before .pre .list .numbered
 
 put-definition-requires : tie.Need-put-definition-requires
 put-definition-requires c κs = search needs
@@ -36,7 +50,7 @@ same-length-5 : tie.Need-same-length-5
 same-length-5 c = search needs
 
 returns-2 : tie.Need-returns-2
-returns-2 c = added (c .before .before .before .before .before .d .given .0 .0) (rw (c .before .before .before .before .before .d .given .1) at (c .before .before .before .before .before .before .before .before .before .before .before .top-level .ensures)) (c .before .before .put-definition .ensures)
+returns-2 c = added (c .before .before .before .before .before .before .before .before .before .d .given .0 .0) (rw (c .before .before .before .before .before .before .before .before .before .d .given .1) at (c .before .before .before .before .before .before .before .before .before .before .before .before .before .before .before .top-level .ensures)) (c .before .before .before .before .before .before .start-at .ensures) (c .before .before .before .before .end-at .ensures) (c .before .before .put-definition .ensures)
 
 pub read-definition-spec : {M : Type 1} → statement M
 read-definition-spec =
@@ -45,6 +59,11 @@ read-definition-spec =
     top-level-requires
     enum-known-c
     enum-known-d
+    cast-start-at
+    start-at-requires
+    cast-end-at
+    sub-end-at
+    end-at-requires
     put-definition-requires
     same-length
     same-length-2

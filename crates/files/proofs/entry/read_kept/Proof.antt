@@ -3,6 +3,7 @@ use mathlib.Core.List.{[]}
 use mathlib.Core.Path.{sym}
 use borrow.Author.Needs.{needs}
 use Rattle.tokens.specs.Token.{view}
+use Rattle.tokens.specs.Place.{positions}
 use Rattle.grammar.specs.FileReader.{parse, fileAt}
 use Rattle.grammar.specs.Rules.{asks}
 use Rattle.grammar.proofs.Numbers.{file-ours}
@@ -46,7 +47,7 @@ returns c =
     let f = c .before .before .before .before .before .before .before .before .before .before .before .before .before .before .before .before .before .before .before .before .read-definitions in
     let z = c .before .before .before .before .before .before .clear-all2 in
     let q = c .before .before .before .before .before .before .before .before .before .before .before .before .p .given in
-    taken-32 (view (a .text .now) (a .tokens .now) (a .kept .now)) (a .definitions .now) (a .statements .now) (a .arguments .now)
+    taken-32 (view (a .text .now) (a .tokens .now) (a .kept .now)) (positions (a .tokens .now) (a .kept .now)) (a .definitions .now) (a .statements .now) (a .arguments .now)
     (f .last .1 .1 .1 .1 .0) (f .last .1 .1 .1 .1 .1 .0) (f .last .1 .1 .1 .1 .1 .1 .0) (f .kept .1 .1 .1 .1 .0) (f .kept .1 .1 .1 .1 .1 .0) (f .kept .1 .1 .1 .1 .1 .1 .0)
     (z .last .0) (z .last .1 .0) (z .last .1 .1 .0) (z .ensures)
     (parse (asks (a .strict)) true [] 0 (view (a .text .now) (a .tokens .now) (a .kept .now))) (q .0 .0) (q .0 .1 .0) (q .0 .1 .1 .0) (q .0 .1 .1 .1 .0) (f .result) (f .ensures) (q .1) (c .before .before .before .before .before .before .before .before .before .before .if1 .taken)
@@ -70,7 +71,7 @@ returns-2 c =
     let f = c .before .before .before .before .before .before .before .before .before .before .before .before .before .before .before .before .before .before .before .before .before .read-definitions in
     let z = c .before .before .before .before .before .before .clear-all3 in
     let q = c .before .before .before .before .before .before .before .before .before .before .before .before .before .p .given in
-    taken-33 (view (a .text .now) (a .tokens .now) (a .kept .now)) (a .definitions .now) (a .statements .now) (a .arguments .now)
+    taken-33 (view (a .text .now) (a .tokens .now) (a .kept .now)) (positions (a .tokens .now) (a .kept .now)) (a .definitions .now) (a .statements .now) (a .arguments .now)
     (f .last .1 .1 .1 .1 .0) (f .last .1 .1 .1 .1 .1 .0) (f .last .1 .1 .1 .1 .1 .1 .0) (f .kept .1 .1 .1 .1 .0) (f .kept .1 .1 .1 .1 .1 .0) (f .kept .1 .1 .1 .1 .1 .1 .0)
     (z .last .0) (z .last .1 .0) (z .last .1 .1 .0) (z .ensures)
     (parse (asks (a .strict)) true [] 0 (view (a .text .now) (a .tokens .now) (a .kept .now))) (q .0 .0) (q .0 .1 .0) (q .0 .1 .1 .0) (q .0 .1 .1 .1 .0) (f .result) (f .ensures) (q .1) (c .before .before .before .before .before .before .before .before .before .before .before .if1 .left) (c .before .before .before .before .before .before .before .before .before .before .if2 .taken)
@@ -94,7 +95,7 @@ returns-3 c =
     let f = c .before .before .before .before .before .before .before .before .before .before .before .before .before .before .before .before .before .before .before .before .before .before .read-definitions in
     let z = c .before .before .before .before .before .before .clear-all4 in
     let q = c .before .before .before .before .before .before .before .before .before .before .before .before .before .before .p .given in
-    taken-34 (view (a .text .now) (a .tokens .now) (a .kept .now)) (a .definitions .now) (a .statements .now) (a .arguments .now)
+    taken-34 (view (a .text .now) (a .tokens .now) (a .kept .now)) (positions (a .tokens .now) (a .kept .now)) (a .definitions .now) (a .statements .now) (a .arguments .now)
     (f .last .1 .1 .1 .1 .0) (f .last .1 .1 .1 .1 .1 .0) (f .last .1 .1 .1 .1 .1 .1 .0) (f .kept .1 .1 .1 .1 .0) (f .kept .1 .1 .1 .1 .1 .0) (f .kept .1 .1 .1 .1 .1 .1 .0)
     (z .last .0) (z .last .1 .0) (z .last .1 .1 .0) (z .ensures)
     (parse (asks (a .strict)) true [] 0 (view (a .text .now) (a .tokens .now) (a .kept .now))) (q .0 .0) (q .0 .1 .0) (q .0 .1 .1 .0) (q .0 .1 .1 .1 .0) (f .result) (f .ensures) (q .1) (c .before .before .before .before .before .before .before .before .before .before .before .before .if1 .left) (c .before .before .before .before .before .before .before .before .before .before .before .if2 .left) (c .before .before .before .before .before .before .before .before .before .before .if3 .taken)
@@ -118,7 +119,7 @@ returns-4 c =
     let f = c .before .before .before .before .before .before .before .before .before .before .before .before .before .before .before .before .before .before .before .before .read-definitions in
     let z = c .before .before .before .before .before .before .before .clear-all in
     let q = c .before .before .before .before .before .before .before .before .before .before .before .before .c .given in
-    taken-refused (view (a .text .now) (a .tokens .now) (a .kept .now)) (a .definitions .now) (a .statements .now) (a .arguments .now)
+    taken-refused (view (a .text .now) (a .tokens .now) (a .kept .now)) (positions (a .tokens .now) (a .kept .now)) (a .definitions .now) (a .statements .now) (a .arguments .now)
     (f .last .1 .1 .1 .1 .0) (f .last .1 .1 .1 .1 .1 .0) (f .last .1 .1 .1 .1 .1 .1 .0) (f .kept .1 .1 .1 .1 .0) (f .kept .1 .1 .1 .1 .1 .0) (f .kept .1 .1 .1 .1 .1 .1 .0)
     (z .last .0) (z .last .1 .0) (z .last .1 .1 .0) (z .ensures)
     (parse (asks (a .strict)) true [] 0 (view (a .text .now) (a .tokens .now) (a .kept .now))) (q .0 .0) (q .0 .1 .0) (c .type-told .result .ty) (c .type-told .result .size) (f .result) (f .ensures) (q .1) (sym (c .type-told .ensures))
@@ -140,7 +141,7 @@ returns-5 c =
     let f = c .before .before .before .before .before .before .before .before .before .before .before .before .before .before .before .before .before .before .before .before .before .before .read-definitions in
     let z = c .before .before .before .before .before .before .clear-rest in
     let q = c .before .before .before .before .before .before .before .before .before .before .before .before .before .before .p .given in
-    taken-read (view (a .text .now) (a .tokens .now) (a .kept .now)) (a .definitions .now) (a .statements .now) (a .arguments .now)
+    taken-read (view (a .text .now) (a .tokens .now) (a .kept .now)) (positions (a .tokens .now) (a .kept .now)) (a .definitions .now) (a .statements .now) (a .arguments .now)
     (f .last .1 .1 .1 .1 .0) (f .last .1 .1 .1 .1 .1 .0) (f .last .1 .1 .1 .1 .1 .1 .0) (f .kept .1 .1 .1 .1 .0) (f .kept .1 .1 .1 .1 .1 .0) (f .kept .1 .1 .1 .1 .1 .1 .0)
     (z .last .0) (z .last .1 .1 .0) (z .last .1 .1 .1 .1 .0)
     (parse (asks (a .strict)) true [] 0 (view (a .text .now) (a .tokens .now) (a .kept .now))) (q .0 .0) (q .0 .1 .0) (q .0 .1 .1 .0) (q .0 .1 .1 .1 .0) (f .result) (f .ensures) (q .1) (c .before .before .before .before .before .before .before .before .before .before .before .before .if1 .left) (c .before .before .before .before .before .before .before .before .before .before .before .if2 .left) (c .before .before .before .before .before .before .before .before .before .before .if3 .left) (z .ensures)

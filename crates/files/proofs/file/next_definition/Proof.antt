@@ -1,5 +1,6 @@
 use lib.ListN.{length, drop}
 use Rattle.tokens.specs.Token.{view}
+use Rattle.tokens.specs.Place.{positions}
 use Rattle.grammar.specs.FileReader.{topLevel}
 use Rattle.grammar.specs.Rules.{asks}
 use Rattle.files.proofs.FileLaws.{added}
@@ -65,7 +66,10 @@ same-length-3 : tie.Need-same-length-3
 same-length-3 c = search needs
 
 returns : tie.Need-returns
-returns c = added (view (c .before .before .before .before .before .before .before .before .before .before .before .before .before .before .before .before .before .before .before .args .text .now) (c .before .before .before .before .before .before .before .before .before .before .before .before .before .before .before .before .before .before .before .args .tokens .now) (c .before .before .before .before .before .before .before .before .before .before .before .before .before .before .before .before .before .before .before .args .kept .now)) (c .before .before .before .before .before .before .before .before .before .before .before .before .before .before .before .before .before .before .before .args .p) (c .before .before .before .before .before .before .before .before .before .before .before .before .before .before .before .before .before .before .before .args .d) (c .before .before .before .before .before .before .before .before .before .before .before .before .before .before .before .before .before .before .before .args .i) (c .before .before .before .before .before .before .before .before .before .before .before .before .before .before .before .before .before .before .before .args .a) (length (c .before .before .before .before .before .before .before .before .before .before .before .before .before .before .before .before .before .before .before .args .kept .now)) (topLevel (asks (c .before .before .before .before .before .before .before .before .before .before .before .before .before .before .before .before .before .before .before .args .strict)) (c .before .before .before .before .before .before .before .before .before .before .before .before .before .before .before .before .before .before .before .args .p) (drop (c .before .before .before .before .before .before .before .before .before .before .before .before .before .before .before .before .before .before .before .args .p) (view (c .before .before .before .before .before .before .before .before .before .before .before .before .before .before .before .before .before .before .before .args .text .now) (c .before .before .before .before .before .before .before .before .before .before .before .before .before .before .before .before .before .before .before .args .tokens .now) (c .before .before .before .before .before .before .before .before .before .before .before .before .before .before .before .before .before .before .before .args .kept .now)))) (c .before .before .before .before .before .before .before .before .before .before .before .before .before .before .before .before .before .before .before .args .definitions .now) (c .before .before .before .before .before .before .before .before .before .before .before .before .before .before .before .before .before .before .before .args .statements .now) (c .before .before .before .before .before .before .before .before .before .before .before .before .before .before .before .before .before .before .before .args .arguments .now) (c .before .before .before .before .before .before .read-definition .result) (c .before .before .before .before .before .before .before .before .before .before .before .before .start-of .result) (c .before .before .before .before .before .before .before .before .before .before .before .start-of2 .result) (c .before .before .before .before .before .before .before .before .before .before .start-of3 .result) (c .before .before .before .before .before .before .read-definition .last .1 .1 .1 .1 .1 .0) (c .before .before .before .before .before .before .read-definition .last .1 .1 .1 .1 .1 .1 .0) (c .before .before .before .before .before .before .read-definition .last .1 .1 .1 .1 .1 .1 .1 .0) (c .before .before .before .before .before .before .before .before .before .before .before .before .start-of .ensures) (c .before .before .before .before .before .before .before .before .before .before .before .start-of2 .ensures) (c .before .before .before .before .before .before .before .before .before .before .start-of3 .ensures) (c .before .before .before .before .before .before .read-definition .ensures)
+returns c =
+    let args = c .before .before .before .before .before .before .before .before .before .before .before .before .before .before .before .before .before .before .before .args in
+    let all = view (args .text .now) (args .tokens .now) (args .kept .now) in
+    added all (positions (args .tokens .now) (args .kept .now)) (args .p) (args .d) (args .i) (args .a) (length (args .kept .now)) (topLevel (asks (args .strict)) (args .p) (drop (args .p) all)) (args .definitions .now) (args .statements .now) (args .arguments .now) (c .before .before .before .before .before .before .read-definition .result) (c .before .before .before .before .before .before .before .before .before .before .before .before .start-of .result) (c .before .before .before .before .before .before .before .before .before .before .before .start-of2 .result) (c .before .before .before .before .before .before .before .before .before .before .start-of3 .result) (c .before .before .before .before .before .before .read-definition .last .1 .1 .1 .1 .1 .0) (c .before .before .before .before .before .before .read-definition .last .1 .1 .1 .1 .1 .1 .0) (c .before .before .before .before .before .before .read-definition .last .1 .1 .1 .1 .1 .1 .1 .0) (c .before .before .before .before .before .before .before .before .before .before .before .before .start-of .ensures) (c .before .before .before .before .before .before .before .before .before .before .before .start-of2 .ensures) (c .before .before .before .before .before .before .before .before .before .before .start-of3 .ensures) (c .before .before .before .before .before .before .read-definition .ensures)
 
 pub next-definition-spec : {M : Type 1} → statement M
 next-definition-spec =
