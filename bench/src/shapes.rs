@@ -244,6 +244,17 @@ fn errors(tokens: usize) -> List {
     list.eof()
 }
 
+/// Constants: of all that is written, the definition records are the most.
+fn constants(tokens: usize) -> List {
+    let mut list = List::new(false);
+    let mut i = 0;
+    while list.tokens() + 6 <= tokens {
+        list.put(DEFINE, "#define", 0).put(CONSTANT, "constant", 0).name(&format!("OWED_{i}")).put(ASSIGN, "=", 0).literal("0x0140");
+        i += 1;
+    }
+    list.eof()
+}
+
 /// Code tables with eight entries each.
 fn code_tables(tokens: usize) -> List {
     let mut list = List::new(false);
@@ -314,7 +325,7 @@ pub fn names(count: usize, front: &str) -> List {
 pub type Shape = (&'static str, fn(usize) -> List);
 
 /// All shapes, in the order in which they are measured.
-pub const SHAPES: [Shape; 10] = [
+pub const SHAPES: [Shape; 11] = [
     ("many macros", many_macros),
     ("one long body", long_body),
     BODY_CALL,
@@ -325,6 +336,7 @@ pub const SHAPES: [Shape; 10] = [
     LABELLED[0],
     LABELLED[1],
     ("errors of four arguments", errors),
+    ("many constants", constants),
 ];
 
 const BODY_CALL: Shape = ("a body call", body_call);

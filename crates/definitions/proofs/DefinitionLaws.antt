@@ -8,8 +8,7 @@ use mathlib.Core.Bool.{false, cond}
 use mathlib.Core.List.{List, [], _∷_, _++_, map, append-nil, map-append}
 use borrow.Author.Tests.{eq-eqb, ne-eqb}
 use lib.ListN.{length, drop, length-append, length-map}
-use Rattle.tokens.specs.Token.{Token, tokenAt}
-use Rattle.tokens.specs.Place.{Positions}
+use Rattle.tokens.specs.Token.{Token, tokenAt, Positions}
 use Rattle.tokens.specs.Number.{definitionWidth, argumentWidth, importDefinition}
 use Rattle.tokens.specs.Lent.{put, putAll}
 use Rattle.tokens.specs.Kind.{Include, Define, Constant, Returns, View, Pure, Payable, NonPayable, Assign, FreeStoragePointer, Ident, Literal, Str}
@@ -523,11 +522,11 @@ record-is pos i a d = go (d .form) refl
 
 module _ {all : List Token} {pos : Positions} {p i a size : ℕ} {read : Res Definition} {de st ar de′ st′ ar′ : List ℕ} where
   -- it was read, and its record, with the bytes of its first and last token, is the first of the lent rest
-  pub added : (d : code.Definition) {n start end : ℕ} → DefParsed 8 all p i a size read st ar (defs.Done d n) st′ ar′
-      → start ≡ pos .start (d .first) → end ≡ pos .end (d .end - 1) → de′ ≡ put definitionWidth de 0 (definitionWords d start end)
+  pub added : (d : code.Definition) {n start end : ℕ} → ((x : Definition) (k : ℕ) → read ≡ got x k → x .first ≡ p) → DefParsed 8 all p i a size read st ar (defs.Done d n) st′ ar′
+      → start ≡ pos .start p → end ≡ pos .end (d .end - 1) → de′ ≡ put definitionWidth de 0 (definitionWords d start end)
       → DefAdded all pos p i a size read 0 0 0 de st ar (defs.Done d n) de′ st′ ar′
   unfolding putAll
-  added d {n} {end = end} h starts ends written = go read refl
+  added d {n} {end = end} begins h starts ends written = go read refl
     where
       go : (x : Res Definition) → read ≡ x → DefAdded all pos p i a size read 0 0 0 de st ar (defs.Done d n) de′ st′ ar′
       go (got x k) e =
@@ -538,9 +537,9 @@ module _ {all : List Token} {pos : Positions} {p i a size : ℕ} {read : Res Def
             is = h′ .is;
             definitionsHold =
                 written
-                ∙ ap (λ (s : ℕ). put definitionWidth de 0 (definitionWords d s end)) starts
-                ∙ ap (λ (e : ℕ). put definitionWidth de 0 (definitionWords d (pos .start (d .first)) e)) ends
-                ∙ ap (λ (y : code.Definition). put definitionWidth de 0 (definitionWords y (pos .start (y .first)) (pos .end (y .end - 1)))) same
+                ∙ ap (λ (s : ℕ). put definitionWidth de 0 (definitionWords d s end)) (starts ∙ ap (λ (q : ℕ). pos .start q) (sym (begins x k e)))
+                ∙ ap (λ (e : ℕ). put definitionWidth de 0 (definitionWords d (pos .start (x .first)) e)) ends
+                ∙ ap (λ (y : code.Definition). put definitionWidth de 0 (definitionWords y (pos .start (x .first)) (pos .end (y .end - 1)))) same
                 ∙ ap (put definitionWidth de 0) (record-is pos i a x);
             statementsHold = h′ .statementsHold;
             argumentsHold = h′ .argumentsHold;

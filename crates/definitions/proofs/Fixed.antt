@@ -2,8 +2,7 @@
 use Prim.Native.Nat.{ℕ}
 use mathlib.Core.Path.{_≡_, sym, _∙_}
 use mathlib.Core.List.{List}
-use Rattle.tokens.specs.Token.{Token}
-use Rattle.tokens.specs.Place.{Positions}
+use Rattle.tokens.specs.Token.{Token, Positions}
 use Rattle.grammar.specs.Result.{Res, got}
 use Rattle.grammar.specs.FileReading.{Definition}
 use Rattle.definitions.specs.declared.record.DefRead.{DefRead}

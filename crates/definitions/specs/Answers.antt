@@ -6,13 +6,13 @@ use mathlib.Core.List.{List, [], _∷_, map}
 use lib.ListN.{length, getD}
 use lib.Dec.{leb}
 use Rattle.tokens.specs.Number.{definitionWidth, statementWidth, argumentWidth, mostTokens}
-use Rattle.tokens.specs.Token.{Token, tokenAt}
-use Rattle.tokens.specs.Place.{FromDoor, Positions}
+use Rattle.tokens.specs.Token.{Token, tokenAt, Positions}
+use Rattle.tokens.specs.Place.{FromDoor}
 use Rattle.grammar.specs.Result.{number, beyond, Res, got, bad}
 use Rattle.grammar.specs.Written.{Written}
 use Rattle.grammar.specs.Records.{argumentRecord}
 use Rattle.grammar.specs.FileReading.{Definition, theMacro, theTest}
-use Rattle.grammar.specs.FileRecords.{macroNumber, kindNumber, inputsOf, outputsOf, lastWords, definitionRecord, formStatements, formArguments, formCount, behindDeclared}
+use Rattle.grammar.specs.FileRecords.{macroNumber, kindNumber, inputsOf, outputsOf, formWords, definitionRecord, formStatements, formArguments, formCount, behindDeclared}
 use Rattle.definitions.specs.declared.record.Definition as code
 use Rattle.definitions.specs.declared.record.DefRead.{DefRead}
 use Rattle.definitions.specs.declared.record.DefRead.the-variants.{Done, Refused}
@@ -47,8 +47,8 @@ codeDefinition i a d =
       outputs = length (outputsOf (d .form));
       statement = i;
       statements = formCount (d .form);
-      a = getD (lastWords (d .form)) 0 0;
-      b = getD (lastWords (d .form)) 1 0;
+      a = getD (formWords (d .form)) 0 0;
+      b = getD (formWords (d .form)) 1 0;
     }
 
 -- a macro, fn or test, by its kind
@@ -93,7 +93,7 @@ pub record DefParsed (least : ℕ) (all : List Token) (p i a size : ℕ) (read :
   pub stands : Stands all p read
   pub within : DefWithin least p size r
 
--- the same with its own record: written from number d, m and n of the lent tables on
+-- the same with its own record, where the kept tokens stand so in the text: written from number d, m and n of the lent tables on
 pub record DefAdded (all : List Token) (pos : Positions) (p i a size : ℕ) (read : Res Definition) (d m n : ℕ) (de st ar : List ℕ) (r : DefRead) (de′ st′ ar′ : List ℕ) : Type 0 where
   pub is : r ≡ defAnswer i a read
   pub definitionsHold : Written definitionWidth (λ x. definitionRecord pos i a x ∷ []) read d de de′

@@ -17,7 +17,7 @@ use Rattle.grammar.specs.Typed.{typedArgument}
 use Rattle.grammar.specs.Records.{argumentRecord}
 use Rattle.grammar.specs.FileReading.{Form, aFunction, anEvent, anError, isMacro}
 use Rattle.grammar.specs.FileReader.{parseArgs, named, functionType}
-use Rattle.grammar.specs.FileRecords.{kindNumber, inputsOf, outputsOf, innerArguments, formArguments, formCount, formStatements, lastWords}
+use Rattle.grammar.specs.FileRecords.{kindNumber, inputsOf, outputsOf, innerArguments, formArguments, formCount, formStatements, formWords}
 use Rattle.lists.specs.Answers.{one}
 use Rattle.lists.specs.declared.argument.Sort.{Sort}
 use Rattle.lists.specs.declared.argument.Sort.the-variants as sorts
@@ -50,7 +50,7 @@ pub record Bodiless (f : Form) (ins outs a b : ℕ) : Type 0 where
   pub inputs : length (inputsOf f) ≡ ins
   pub outputs : length (outputsOf f) ≡ outs
   pub inner : innerArguments f ≡ []
-  pub last : lastWords f ≡ a ∷ b ∷ []
+  pub last : formWords f ≡ a ∷ b ∷ []
 
 -- s was read from p on, and its arguments' records were written from number 0 on
 pub record Signed (kind p size : ℕ) (read : Res Form) (table : List ℕ) (s : Signature) (table′ : List ℕ) : Type 0 where

@@ -15,17 +15,17 @@ use crate::signature::Signature;
 use crate::signature::function_behind;
 use crate::signature::list_behind;
 use crate::table::parse_table;
-use tokens::end_at;
+use tokens::end_inside;
 use tokens::kind;
 use tokens::kind_at;
 use tokens::number;
-use tokens::start_at;
+use tokens::start_inside;
 ghost use Prim.Native.Nat.{ℕ};
 ghost use mathlib.Core.Path.{_≡_};
 ghost use mathlib.Core.List.{List};
 ghost use lib.ListN.{length};
-ghost use Rattle.tokens.specs.Token.{view};
-ghost use Rattle.tokens.specs.Place.{tokensFrom, positions};
+ghost use Rattle.tokens.specs.Token.{view, positions};
+ghost use Rattle.tokens.specs.Place.{tokensFrom};
 ghost use Rattle.tokens.specs.Number.{UnexpectedType, InvalidDefinition};
 ghost use Rattle.grammar.specs.Result.{plain, expect};
 ghost use Rattle.grammar.specs.Rules.{asks};
@@ -277,8 +277,8 @@ pub fn read_definition(
     match top_level(text, tokens, kept, strict, p, statements, arguments, i, a) {
         DefRead::Refused(c, q) => DefRead::Refused(c, q),
         DefRead::Done(d, n) => {
-            let start = start_at(tokens, kept, d.first as usize);
-            let end = end_at(tokens, kept, d.end as usize - 1);
+            let start = start_inside(tokens, kept, p);
+            let end = end_inside(tokens, kept, d.end as usize - 1);
             put_definition(definitions, 0, d, start, end);
             DefRead::Done(d, n)
         }

@@ -6,15 +6,14 @@ use mathlib.Core.Logic.{_↔_}
 use mathlib.Core.Bool.{Bool, true, false, cond}
 use mathlib.Core.List.{List, [], map}
 use borrow.Author.Tests.{ltb-true, ltb-false, lt-ltb, le-ltb}
-use lib.ListN.{length, getD, take}
+use lib.ListN.{length, getD, take, length-map}
 use lib.Dec.{ltb, eqb}
 use Rattle.tokens.specs.Number as number
 use Rattle.tokens.specs.Number.{definitionWidth, statementWidth, argumentWidth, labelType, macroDefinition, testDefinition, lenientMode, strictMode}
 use Rattle.tokens.specs.Kind.{Eof, Pound}
-use Rattle.tokens.specs.Token.{Token, tokenAt}
+use Rattle.tokens.specs.Token.{Token, tokenAt, Positions, positions}
 use Rattle.tokens.specs.Name.{typeTold}
 use Rattle.tokens.specs.Kept.{keptOf, keptTokens}
-use Rattle.tokens.specs.Place.{Positions, positions}
 use Rattle.tokens.specs.WellFormed.{WellFormed}
 use Rattle.tokens.specs.Door.{door}
 use Rattle.tokens.proofs.DoorLaws.{kept-not-empty, Means, means-30, means-35, means-31, means-through, door-means, let-through}
@@ -29,7 +28,7 @@ use Rattle.grammar.specs.Call.{ReadingNumber, acceptance, refusalOf, refusal, r
 use Rattle.grammar.specs.Tables.{Stands, typeWord, firstWord, endWord, innerWord, Flat}
 use Rattle.grammar.specs.FileTables.{FileTable, definitionWord, StatementsOf}
 use Rattle.grammar.specs.Cases.{tokensOf}
-use Rattle.grammar.specs.FileCases.{FileOutcome, FileRow, fileOutcome, ended, fileRows, strictFiles}
+use Rattle.grammar.specs.FileCases.{FileOutcome, FileRow, fileOutcome, ended, placed, outcomeAt, fileRows, strictFiles}
 use Rattle.grammar.proofs.Lists.{all-map, all-mapped, agree-at}
 use Rattle.grammar.proofs.Numbers.{file-ours, held-refused, tells-accepted, tells-none, tells-at}
 use Rattle.grammar.proofs.FileDemand.{file-exactly, file-cursor, file-repeated, file-pound, file-same-refusal}
@@ -339,17 +338,22 @@ with-room {mode} {text} {words} {kept} {definitions} {statements} {arguments} {r
           argumentsHold = call .argumentsHold ∙ rw told (held-refused c _ arguments ours);
         }
 
--- a table of definitions without room for those of the reading: 32, and the cursor is how many there are
+-- 32: the records needed, and tables that are zero
+abbrev pub tooFew : ℕ → FileOutcome
+tooFew need = record { answers = refusal number.DefinitionsTooSmall need; definitions = []; statements = []; arguments = [] }
+
+-- a table of definitions without room for those of the reading: 32
 pub too-few-definitions : {mode : ℕ} {text words kept definitions statements arguments : List ℕ} {r : File} {kept′ definitions′ statements′ arguments′ : List ℕ}
     → isMode mode ≡ true → WellFormed text words → length (keptOf words) ≤ length kept
     → (o : FileOutcome) → fileOutcome (keptTokens text words) (positions words (keptOf words)) (fileReading mode text words) ≡ o
     → length definitions / definitionWidth < length (o .definitions)
     → FileCall mode text words kept definitions statements arguments r kept′ definitions′ statements′ arguments′
-    → values r ≡ refusal number.DefinitionsTooSmall (length (o .definitions))
-unfolding afterReading
+    → Told definitions statements arguments r definitions′ statements′ arguments′ (tooFew (length (o .definitions)))
+unfolding afterReading heldAfter
 too-few-definitions {mode} {text} {words} {definitions = definitions} {statements} {arguments} {r} known formed enough o is few call =
     let same = ap (λ (x : FileOutcome). length (x .definitions)) is in
-    go (fileReading mode text words) refl (subst (λ (n : ℕ). length definitions / definitionWidth < n) (sym same) few) ∙ ap (refusal number.DefinitionsTooSmall) same
+    let told = go (fileReading mode text words) refl (subst (λ (n : ℕ). length definitions / definitionWidth < n) (sym same) few) ∙ ap (refusal number.DefinitionsTooSmall) same in
+    record { answer = told; definitionsHold = call .definitionsHold ∙ rw told; statementsHold = call .statementsHold ∙ rw told; argumentsHold = call .argumentsHold ∙ rw told }
   where
     go : (x : Answer (List Definition)) → fileReading mode text words ≡ x
         → length definitions / definitionWidth < length (recordsOf (definitionRecords (positions words (keptOf words)) 0 0) x)
@@ -374,24 +378,24 @@ Answered mode texts row =
     → WellFormed text words
     → keptTokens text words ≡ tokensOf texts 0 (ended (row .input))
     → length (keptOf words) ≤ length kept
-    → length (row .outcome (positions words (keptOf words)) .definitions) ≤ length definitions / definitionWidth
-    → length (row .outcome (positions words (keptOf words)) .statements) ≤ length statements / statementWidth
-    → length (row .outcome (positions words (keptOf words)) .arguments) ≤ length arguments / argumentWidth
+    → length (row .outcome .definitions) ≤ length definitions / definitionWidth
+    → length (row .outcome .statements) ≤ length statements / statementWidth
+    → length (row .outcome .arguments) ≤ length arguments / argumentWidth
     → FileCall mode text words kept definitions statements arguments r kept′ definitions′ statements′ arguments′
-    → Told definitions statements arguments r definitions′ statements′ arguments′ (row .outcome (positions words (keptOf words)))
+    → Told definitions statements arguments r definitions′ statements′ arguments′ (outcomeAt row (positions words (keptOf words)))
 
 -- where the reader gives a list of rows their outcomes, a call does
-rows-answered : (mode : ℕ) (texts : ℕ → List ℕ) (list : List FileRow) → isMode mode ≡ true → fileOutcomes mode texts list ≡ map (λ row. row .outcome) list → All (Answered mode texts) list
+rows-answered : (mode : ℕ) (texts : ℕ → List ℕ) (list : List FileRow) → isMode mode ≡ true → fileOutcomes mode texts list ≡ map outcomeAt list → All (Answered mode texts) list
 unfolding fileOutcomes
-rows-answered mode texts list known hold = all-map (λ row. answer row ≡ row .outcome) (Answered mode texts) list one (all-mapped answer (λ row. row .outcome) list hold)
+rows-answered mode texts list known hold = all-map (λ row. answer row ≡ outcomeAt row) (Answered mode texts) list one (all-mapped answer outcomeAt list hold)
   where
     answer : FileRow → Positions → FileOutcome
     answer row = readIn mode (tokensOf texts 0 (ended (row .input)))
 
-    one : (row : FileRow) → answer row ≡ row .outcome → Answered mode texts row
+    one : (row : FileRow) → answer row ≡ outcomeAt row → Answered mode texts row
     one row e text words kept definitions statements arguments r kept′ definitions′ statements′ arguments′ formed same enough room room′ room″ call =
         let pos = positions words (keptOf words) in
-        with-room known formed enough (row .outcome pos) (rw same (ap (λ (f : Positions → FileOutcome). f pos) e)) room room′ room″ call
+        with-room known formed enough (outcomeAt row pos) (rw same (ap (λ (f : Positions → FileOutcome). f pos) e)) (rw (length-map (row .outcome .definitions) (placed pos)) room) room′ room″ call
 
 pub file-call-rows : (texts : ℕ → List ℕ) → All (Answered lenientMode texts) fileRows
 unfolding isMode

@@ -8,10 +8,9 @@ use borrow.Author.Tests.{lt-ltb, le-ltb}
 use lib.ListN.{length, replicate, take}
 use Rattle.tokens.specs.Number.{definitionWidth, statementWidth, argumentWidth}
 use Rattle.tokens.specs.Lent.{clearedBehind}
-use Rattle.tokens.specs.Token.{Token, tokenAt, view}
+use Rattle.tokens.specs.Token.{Token, tokenAt, view, Positions, positions}
 use Rattle.tokens.specs.Name.{typeTold}
 use Rattle.tokens.specs.Kept.{keptOf}
-use Rattle.tokens.specs.Place.{Positions, positions}
 use Rattle.tokens.specs.Door as doors
 use Rattle.tokens.specs.Door.{door, Prepared}
 use Rattle.tokens.specs.declared.door.Door.{Door}

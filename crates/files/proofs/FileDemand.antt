@@ -7,9 +7,9 @@ use mathlib.Core.Logic.{_↔_}
 use mathlib.Core.Bool.{true}
 use mathlib.Core.List.{List}
 use lib.ListN.{length, getD}
+use Rattle.tokens.specs.Token.{positions}
 use Rattle.tokens.specs.Number.{definitionWidth, statementWidth, argumentWidth}
 use Rattle.tokens.specs.Kept.{keptOf, keptTokens}
-use Rattle.tokens.specs.Place.{positions}
 use Rattle.tokens.specs.WellFormed.{WellFormed}
 use Rattle.tokens.proofs.TokenLaws.{view-length}
 use Rattle.grammar.specs.Rules.{isMode, rulesOf}

@@ -11,8 +11,8 @@ use borrow.Author.Tests.{eq-eqb, ne-eqb}
 use borrow.Rule.Slice.PartMut.{midOf, putMid}
 use lib.ListN.{length, drop, length-append, length-map}
 use Rattle.tokens.specs.Kind.{Eof}
-use Rattle.tokens.specs.Token.{Token, tokenAt, view}
-use Rattle.tokens.specs.Place.{KindAt, Positions, positions}
+use Rattle.tokens.specs.Token.{Token, tokenAt, view, Positions, positions}
+use Rattle.tokens.specs.Place.{KindAt}
 use Rattle.tokens.specs.Name.{oneOf}
 use Rattle.tokens.specs.Number.{UnexpectedType, DuplicateMacro, definitionWidth, statementWidth, argumentWidth}
 use Rattle.tokens.specs.Lent.{putAll}

@@ -5,9 +5,9 @@ use mathlib.Core.Path.{_≡_, refl, sym, ap, _∙_}
 use mathlib.Core.List.{List, [], _∷_}
 use borrow.Author.Tests.{ne-eqb}
 use lib.ListN.{getD}
+use Rattle.tokens.specs.Token.{Positions, positions}
 use Rattle.tokens.specs.Number as number
 use Rattle.tokens.specs.Kept.{keptOf}
-use Rattle.tokens.specs.Place.{Positions, positions}
 use Rattle.grammar.specs.Result.{Res, got, choose}
 use Rattle.grammar.specs.Call.{recordsOf, heldAfter}
 use Rattle.grammar.specs.FileReading.{Definition}

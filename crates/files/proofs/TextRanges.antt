@@ -4,17 +4,16 @@ use native.Mathlib.Omega.{arith}
 use mathlib.Core.Path.{_≡_, refl, ap, _∙_}
 use mathlib.Core.Bool.{true}
 use mathlib.Core.List.{List, [], _∷_, map, flatten}
-use lib.ListN.{length}
+use lib.ListN.{length, replicate}
 use Rattle.tokens.specs.Number as number
 use Rattle.tokens.specs.Number.{definitionWidth, statementWidth, argumentWidth, lenientMode, strictMode}
-use Rattle.tokens.specs.Token.{Token}
+use Rattle.tokens.specs.Token.{Token, tokenOf, positions}
 use Rattle.tokens.specs.Kept.{keptOf, keptTokens}
-use Rattle.tokens.specs.Place.{Positions, positions}
 use Rattle.tokens.specs.WellFormed.{WellFormed}
 use Rattle.tokens.specs.Door.{door}
-use Rattle.tokens.proofs.TokenLaws.{view-text, view-length}
+use Rattle.tokens.proofs.TokenLaws.{view-inside, view-length}
 use Rattle.tokens.proofs.DoorLaws.{Means, means-30, means-35, means-31, means-through, door-means}
-use Rattle.tokens.proofs.PlaceLaws.{kept-within, lined-kept}
+use Rattle.tokens.proofs.PlaceLaws.{kept-range, kept-next}
 use Rattle.grammar.specs.Rules.{isMode}
 use Rattle.grammar.specs.Facts.{All}
 use Rattle.grammar.specs.Call.{acceptance, refusal}
@@ -26,18 +25,18 @@ use Rattle.grammar.proofs.FileCases.{readIn, textOutcomes, text-rows-hold}
 use Rattle.statements.proofs.Called.{number-is}
 use Rattle.files.specs.declared.entry.File.{File}
 use Rattle.files.specs.Call.{values, FileCall}
-use Rattle.files.proofs.Called.{accepted, file-call-tables, Told, with-room, too-few-definitions}
+use Rattle.files.proofs.Called.{accepted, file-call-tables, Told, with-room, tooFew, too-few-definitions}
 
 -- how the kept tokens of a well-formed list stand in the text
 in-text : (text words : List ℕ) → WellFormed text words → InText text (keptTokens text words) (positions words (keptOf words))
+unfolding tokenOf
 in-text text words formed =
-    let lined = lined-kept text words formed in
     let many = view-length text words (keptOf words) in
     record {
-      forwards = λ p h. lined .range p (rw many at h);
-      onwards = λ p h. lined .next p (rw many at h);
-      within = λ p h. kept-within text words formed p (rw many at h);
-      there = view-text text words (keptOf words);
+      forwards = λ p h. kept-range text words formed p (rw many at h) .0;
+      onwards = λ p h. kept-next text words formed p (rw many at h);
+      within = λ p h. kept-range text words formed p (rw many at h) .1;
+      there = λ p h. ap (λ (t : Token). t .text) (view-inside text words (keptOf words) p (rw many at h));
     }
 
 module _ {mode : ℕ} {text words kept definitions statements arguments : List ℕ} {r : File} {kept′ definitions′ statements′ arguments′ : List ℕ}
@@ -70,7 +69,7 @@ OnRow mode row Then =
     → FileCall mode (textOf (row .cut)) (wordsFrom 0 (row .cut)) kept definitions statements arguments r kept′ definitions′ statements′ arguments′
     → Then definitions statements arguments r definitions′ statements′ arguments′
 
--- with room it leaves the row's numbers and tables; with too few words for the definitions it answers 32, and the cursor is how many there are
+-- with room it leaves the row's numbers and tables; with too few words for the definitions it answers 32, the cursor is the records needed, and the tables are zero
 abbrev pub TextAnswered : ℕ → TextRow → Type 0
 TextAnswered mode row =
     OnRow mode row (λ definitions statements arguments r definitions′ statements′ arguments′.
@@ -78,7 +77,8 @@ TextAnswered mode row =
     → length (row .outcome .statements) ≤ length statements / statementWidth
     → length (row .outcome .arguments) ≤ length arguments / argumentWidth
     → Told definitions statements arguments r definitions′ statements′ arguments′ (row .outcome))
-    × (length definitions / definitionWidth < length (row .outcome .definitions) → values r ≡ refusal number.DefinitionsTooSmall (length (row .outcome .definitions))))
+    × (length definitions / definitionWidth < length (row .outcome .definitions)
+    → Told definitions statements arguments r definitions′ statements′ arguments′ (tooFew (length (row .outcome .definitions)))))
 
 module _ (mode : ℕ) (known : isMode mode ≡ true) where
   -- what the door and the reader say of a row
@@ -112,14 +112,14 @@ file-call-text-rows = (rows-answered lenientMode refl textRows (text-rows-hold .
 abbrev pub Thirteen : ℕ → Type 0
 Thirteen mode =
     OnRow mode oneConstant (λ definitions statements arguments r definitions′ statements′ arguments′.
-    (length definitions ≡ 13 → values r ≡ refusal number.DefinitionsTooSmall 1)
+    (length definitions ≡ 13 → (values r ≡ refusal number.DefinitionsTooSmall 1) × (definitions′ ≡ replicate 13 0))
     × (length definitions ≡ 14 → definitions′ ≡ 4 ∷ 2 ∷ 0 ∷ 5 ∷ 0 ∷ 0 ∷ 0 ∷ 0 ∷ 0 ∷ 0 ∷ 1 ∷ 4 ∷ 0 ∷ 25 ∷ []))
 
 thirteen : (mode : ℕ) → TextAnswered mode oneConstant → Thirteen mode
 unfolding flatten
 thirteen mode row kept definitions statements arguments r kept′ definitions′ statements′ arguments′ enough call =
     let both = row kept definitions statements arguments r kept′ definitions′ statements′ arguments′ enough call in (
-      (λ n. both .1 (rw n (omega arith))),
+      (λ n. let told = both .1 (rw n (omega arith)) in (told .answer, told .definitionsHold ∙ rw n)),
       (λ n. both .0 (rw n (omega arith)) (omega arith) (omega arith) .definitionsHold ∙ rw n),
     )
 

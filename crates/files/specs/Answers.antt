@@ -3,8 +3,9 @@ use Prim.Native.Nat.{ℕ, _+_}
 use mathlib.Core.Path.{_≡_}
 use mathlib.Core.List.{List}
 use lib.ListN.{length}
+use Rattle.tokens.specs.Token.{Positions}
 use Rattle.tokens.specs.Number.{definitionWidth, statementWidth, argumentWidth}
-use Rattle.tokens.specs.Place.{FromDoor, Positions}
+use Rattle.tokens.specs.Place.{FromDoor}
 use Rattle.names.specs.Names.{Fresh}
 use Rattle.grammar.specs.Result.{number, beyond, Res, got, bad}
 use Rattle.grammar.specs.Written.{Written}
@@ -23,7 +24,7 @@ abbrev pub fileRead : Res (List Definition) → FileRead
 fileRead (got ds k) = files.Done k (length ds) (fileStatementCount ds) (length (fileArguments ds))
 fileRead (bad y w) = files.Refused (number y) (w + beyond y)
 
--- what the loop over definitions promises: its answer, and the records of all of them in the three tables
+-- what the loop over definitions promises, where the kept tokens stand so in the text: its answer, and the records of all of them in the three tables
 pub record FileParsed (pos : Positions) (read : Res (List Definition)) (de st ar : List ℕ) (r : FileRead) (de′ st′ ar′ : List ℕ) : Type 0 where
   pub is : r ≡ fileRead read
   pub definitionsHold : Written definitionWidth (definitionRecords pos 0 0) read 0 de de′

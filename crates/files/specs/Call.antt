@@ -7,9 +7,8 @@ use lib.ListN.{length, getD}
 use lib.Dec.{ltb}
 use Rattle.tokens.specs.Number as number
 use Rattle.tokens.specs.Number.{definitionWidth, statementWidth, argumentWidth}
-use Rattle.tokens.specs.Token.{Token}
+use Rattle.tokens.specs.Token.{Token, positions}
 use Rattle.tokens.specs.Kept.{keptOf, keptTokens}
-use Rattle.tokens.specs.Place.{positions}
 use Rattle.tokens.specs.Door.{keptAfter}
 use Rattle.grammar.specs.Result.{Answer, read, refused}
 use Rattle.grammar.specs.Rules.{rulesOf}
@@ -64,7 +63,8 @@ abbrev pub fileAnswered : ℕ → List ℕ → List ℕ → ℕ → ℕ → ℕ 
 fileAnswered mode text words kept definitions statements arguments =
     afterDoor (fileEntrance mode text words kept) (afterReading (keptTokens text words) (fileReading mode text words) definitions statements arguments)
 
--- the promise: the answer r by its numbers, and the kept list and the three tables afterwards
+-- the promise: the answer r by its numbers, and the kept list and the three tables afterwards. Where the kept tokens stand in the text comes in for the definition
+-- records alone, for their last two words (request [7])
 pub record FileCall (mode : ℕ) (text words kept definitions statements arguments : List ℕ) (r : File) (kept′ definitions′ statements′ arguments′ : List ℕ) : Type 0 where
   pub answer : values r ≡ fileAnswered mode text words (length kept) (length definitions) (length statements) (length arguments)
   pub own : Own r

@@ -3,8 +3,7 @@ use mathlib.Core.Path.{_≡_}
 use mathlib.Core.List.{List}
 use Prim.Native.Nat.{ℕ}
 use lib.ListN.{length}
-use Rattle.tokens.specs.Token.{Token}
-use Rattle.tokens.specs.Place.{Positions}
+use Rattle.tokens.specs.Token.{Token, Positions}
 use Rattle.grammar.specs.Result.{Answer}
 use Rattle.grammar.specs.FileReading.{Definition}
 use Rattle.grammar.specs.FileRecords.{definitionRecords, fileStatements, fileArgumentRecords}

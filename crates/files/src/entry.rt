@@ -11,11 +11,11 @@ ghost use mathlib.Core.Path.{_≡_};
 ghost use mathlib.Core.Bool.{true};
 ghost use lib.ListN.{length, replicate};
 ghost use Rattle.tokens.specs.Lent.{clearedBehind};
-ghost use Rattle.tokens.specs.Token.{view};
+ghost use Rattle.tokens.specs.Token.{view, positions};
 ghost use Rattle.grammar.specs.Rules.{asks};
 ghost use Rattle.grammar.specs.FileReader.{fileAt};
 ghost use Rattle.tokens.specs.Number.{definitionWidth, statementWidth, argumentWidth};
-ghost use Rattle.tokens.specs.Place.{FromDoor, positions};
+ghost use Rattle.tokens.specs.Place.{FromDoor};
 ghost use Rattle.files.specs.Call.{FileCall};
 ghost use Rattle.files.specs.Taken.{FileTaken};
 

@@ -11,10 +11,10 @@ ghost use Prim.Native.Nat.{_≤_};
 ghost use lib.ListN.{length};
 ghost use mathlib.Core.List.{[]};
 ghost use mathlib.Core.Bool.{true};
-ghost use Rattle.tokens.specs.Token.{view};
+ghost use Rattle.tokens.specs.Token.{view, positions};
 ghost use Rattle.grammar.specs.Rules.{asks};
 ghost use Rattle.grammar.specs.FileReader as reader;
-ghost use Rattle.tokens.specs.Place.{FromDoor, tokensFrom, positions};
+ghost use Rattle.tokens.specs.Place.{FromDoor, tokensFrom};
 ghost use Rattle.files.specs.Answers.{Readable, FileParsed};
 ghost use Rattle.definitions.specs.Answers.{Reading, DefAdded};
 

@@ -7,11 +7,10 @@ use lib.ListN.{length}
 use Rattle.tokens.specs.Number.{lenientMode, strictMode}
 use Rattle.tokens.specs.Byte.{bytes, same, isHex, allHex}
 use Rattle.tokens.specs.Literal.{isLiteral}
-use Rattle.tokens.specs.Token.{Token, tokenOf, view}
+use Rattle.tokens.specs.Token.{Token, tokenOf, view, Positions, positions}
 use Rattle.tokens.specs.WellFormed.{wholeGood, prevEnd, rangeGood, eofGood, textGood, extraGood, contentsGood, goodAfter, good, badFrom, firstBad}
 use Rattle.tokens.specs.Kept.{dropped, keptFrom, keptOf, keptTokens}
 use Rattle.tokens.specs.Door.{door}
-use Rattle.tokens.specs.Place.{fieldAt, Positions, positions}
 use Rattle.tokens.specs.Push.{isValuePush}
 use Rattle.tokens.specs.Name.{decimal, multiples, sized, bareTypes, typeNames, lookUp, typeOf, reserved, typeTold, oneOf}
 use Rattle.grammar.specs.Rules.{rulesOf}
@@ -25,7 +24,7 @@ use Rattle.grammar.specs.FileGrammar.{entryAllowed, repeats}
 use Rattle.grammar.specs.FileRecords.{formArguments, entryRecords, formCount, formStatements, definitionRecord, definitionRecords, fileStatements, fileArguments, fileArgumentRecords, fileStatementCount}
 use Rattle.grammar.specs.FileReader.{byKind, optional, named, parseImports, functionType, functionRest, parseFunction, eventRest, parseEvent, constantValue, constantRest, parseConstant, errorRest, parseCustomError, macroRest, parseMacro, tableEntry, tableEntries, parseTableBody, tableRest, parseTable, parseDefinition, topLevel, checked, definition, parse, fileAt}
 use Rattle.grammar.specs.Cases.{tokensOf}
-use Rattle.grammar.specs.FileCases.{FileRow, FileOutcome, fileRows, strictFiles, ended, fileOutcome, TextRow, textOf, wordsFrom, textRows}
+use Rattle.grammar.specs.FileCases.{FileRow, FileOutcome, fileRows, strictFiles, ended, fileOutcome, outcomeAt, TextRow, textOf, wordsFrom, textRows}
 
 -- what the reader answers in a mode, with the rule on names; the line says what must compute for the rows
 unfoldable pub readIn : ℕ → List Token → Positions → FileOutcome
@@ -38,18 +37,18 @@ unfolding readIn tokensOf
 fileOutcomes mode texts list = map (λ row. readIn mode (tokensOf texts 0 (ended (row .input)))) list
 
 -- document 01's rows of files, one of each definition, and refusals of every kind
-pub file-rows-hold : (texts : ℕ → List ℕ) → fileOutcomes lenientMode texts fileRows ≡ map (λ row. row .outcome) fileRows
+pub file-rows-hold : (texts : ℕ → List ℕ) → fileOutcomes lenientMode texts fileRows ≡ map outcomeAt fileRows
 unfolding fileOutcomes
 file-rows-hold texts = refl
 
 -- and those of request [1]
-pub strict-files-hold : (texts : ℕ → List ℕ) → fileOutcomes strictMode texts strictFiles ≡ map (λ row. row .outcome) strictFiles
+pub strict-files-hold : (texts : ℕ → List ℕ) → fileOutcomes strictMode texts strictFiles ≡ map outcomeAt strictFiles
 unfolding fileOutcomes
 strict-files-hold texts = refl
 
 -- by their bytes: what the door says of each row's text and words, where the kept list is just long enough, and what the reader answers
 unfoldable pub textOutcomes : ℕ → List TextRow → List (ℕ × FileOutcome)
-unfolding textOf wordsFrom isLiteral wholeGood prevEnd rangeGood eofGood textGood extraGood contentsGood goodAfter good badFrom firstBad dropped keptFrom keptOf tokenOf view door fieldAt readIn
+unfolding textOf wordsFrom isLiteral wholeGood prevEnd rangeGood eofGood textGood extraGood contentsGood goodAfter good badFrom firstBad dropped keptFrom keptOf tokenOf view door readIn
 textOutcomes mode list =
     map (λ row.
     let text = textOf (row .cut) in

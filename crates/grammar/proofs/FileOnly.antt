@@ -6,8 +6,7 @@ use mathlib.Core.Logic.{_≢_, ⊎-elim}
 use mathlib.Core.Bool.{Bool, true, false}
 use mathlib.Core.List.{List}
 use Rattle.tokens.specs.Number.{definitionWidth, statementWidth, argumentWidth}
-use Rattle.tokens.specs.Place.{Positions}
-use Rattle.tokens.specs.Token.{Token, tokenAt}
+use Rattle.tokens.specs.Token.{Token, tokenAt, Positions}
 use Rattle.tokens.specs.Kind.{Eof, Function, Error, Takes, Returns, Indexed, Storage, Assign, OpenParen, CloseParen, OpenBrace, CloseBrace, Comma, Ident, PrimitiveType}
 use Rattle.grammar.specs.Reading.{NONE}
 use Rattle.grammar.specs.Grammar.{Location, calldata, memory, storage}

@@ -4,13 +4,13 @@ use native.Mathlib.Omega.{arith}
 use mathlib.Core.Path.{_≡_, refl, ap}
 use mathlib.Core.List.{List, [], _∷_, map}
 use lib.ListN.{length, length-append, length-map}
+use Rattle.tokens.specs.Token.{Positions}
 use Rattle.tokens.specs.Number.{definitionWidth, statementWidth, argumentWidth}
-use Rattle.tokens.specs.Place.{Positions}
 use Rattle.grammar.specs.Reading.{Argument}
 use Rattle.grammar.specs.Records.{argumentRecord}
 use Rattle.grammar.specs.Facts.{All, HasWords}
 use Rattle.grammar.specs.FileReading.{Value, literalAt, pointerAt, TableSort, TableEntry, Form, anImport, aFunction, anEvent, aDefinedConstant, anError, aMacro, aTable, Definition}
-use Rattle.grammar.specs.FileRecords.{formArguments, entryRecords, formCount, formStatements, lastWords, behindDeclared, textRange, definitionRecord, definitionRecords, fileStatements, fileArguments, fileArgumentRecords, fileStatementCount}
+use Rattle.grammar.specs.FileRecords.{formArguments, entryRecords, formCount, formStatements, formWords, behindDeclared, textRange, definitionRecord, definitionRecords, fileStatements, fileArguments, fileArgumentRecords, fileStatementCount}
 use Rattle.grammar.proofs.Lists.{all-append}
 use Rattle.grammar.proofs.Recorded.{as-many, as-wide}
 
@@ -51,11 +51,11 @@ pub file-as-many : (pos : Positions) (i a : ℕ) (ds : List Definition)
 unfolding fileArgumentRecords
 file-as-many pos i a ds = (definitions-many pos i a ds, statements-many i a ds, length-map (fileArguments ds) argumentRecord)
 
-value-wide : (v : Value) → length (lastWords (aDefinedConstant v)) ≡ 2
+value-wide : (v : Value) → length (formWords (aDefinedConstant v)) ≡ 2
 value-wide (literalAt p) = refl
 value-wide (pointerAt p) = refl
 
-last-wide : (f : Form) → length (lastWords f) ≡ 2
+last-wide : (f : Form) → length (formWords f) ≡ 2
 last-wide anImport = refl
 last-wide (aFunction ins ty outs) = refl
 last-wide (anEvent args) = refl
@@ -68,7 +68,7 @@ definitions-wide : (pos : Positions) (i a : ℕ) (ds : List Definition) → All 
 unfolding definitionRecords definitionRecord
 definitions-wide pos i a [] = tt
 definitions-wide pos i a (d ∷ ds) = (
-  omega (arith, last-wide (d .form), length-append (lastWords (d .form)) (textRange pos d)),
+  omega (arith, last-wide (d .form), length-append (formWords (d .form)) (textRange pos d)),
   definitions-wide pos (i + formCount (d .form)) (a + length (formArguments (d .form))) ds,
 )
 

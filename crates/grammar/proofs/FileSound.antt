@@ -24,7 +24,7 @@ use Rattle.grammar.specs.FileGrammar.{Optional, absent, present, Lone, l
 use Rattle.grammar.specs.FileReader.{byKind, optional, parseArgs, named, parseImports, functionType, functionRest, parseFunction, eventRest, parseEvent, constantValue, constantRest, parseConstant, errorRest, parseCustomError, macroRest, parseMacro, tableEntry, endsTable, tableEntries, parseTableBody, sign, tableRest, parseTable, kindTable, parseDefinition, topTable, topLevel}
 use Rattle.grammar.specs.FileFollows.{hasTyped, pastIn, isDefinitionNumber}
 use Rattle.grammar.proofs.Lists.{mark, word}
-use Rattle.grammar.proofs.Holds.{Holds, ill, StepHolds, refusing, going, Finish, got-holds, cond-says, choose-says, look-holds, holds-map, seq-holds, NoneOrOne, nothing, one, many-holds}
+use Rattle.grammar.proofs.Holds.{Holds, well, ill, StepHolds, refusing, going, Finish, got-holds, cond-says, choose-says, look-holds, holds-map, seq-holds, NoneOrOne, nothing, one, many-holds}
 use Rattle.grammar.proofs.Sound.{Any, expect-holds, closed-holds, name-holds, name-some, body-holds}
 use Rattle.grammar.proofs.FileHolds.{Near, Inner, inner-told, plain-inner, by-kind-holds, optional-holds, expect-run}
 use Rattle.grammar.proofs.FileTyped.{typed-list-holds}
@@ -491,3 +491,15 @@ module _ (m : Rules) where
 pub defined-some : (m : Rules) (p : ℕ) (xs : List Token) (d : Definition) → Defined m p xs d → 0 < length xs
 defined-some m p xs d (include i s e f) = omega arith
 defined-some m p xs d (define t k n e f r) = omega arith
+
+-- a definition begins at its place and ends behind its tokens
+pub defined-range : (m : Rules) (p : ℕ) (xs : List Token) (d : Definition) → Defined m p xs d → (d .first ≡ p) × (d .end ≡ p + length xs) × (p < d .end)
+defined-range m p xs d (include i s e f) = (refl, omega arith, omega arith)
+defined-range m p xs d (define t k n e f r) = (refl, omega arith, omega arith)
+
+-- so what the reader reads begins where it reads
+pub top-first : (m : Rules) (p : ℕ) (ts : List Token) (d : Definition) (n : ℕ) → topLevel m p ts ≡ got d n → d .first ≡ p
+top-first m p ts d n e = at (rw e at (top-holds m p ts))
+  where
+    at : {T : Why → Token → Type 0} {L : List Token → Type 0} {f : List Token → Res Definition} → Holds T (Defined m p) L p f ts (got d n) → d .first ≡ p
+    at (well g) = defined-range m p (take n ts) d (g .follows) .0

@@ -11,8 +11,7 @@ use mathlib.Core.List.{List, [], _∷_, _++_, map}
 use lib.ListN.{length, take, drop, length-append, length-drop, take-append-drop}
 use lib.Seq.{take-at, length-take-le}
 use Rattle.tokens.specs.Number.{definitionWidth, statementWidth, argumentWidth, labelType, importDefinition, macroDefinition, testDefinition, jumpTableDefinition, codeTableDefinition, errorDefinition}
-use Rattle.tokens.specs.Place.{Positions}
-use Rattle.tokens.specs.Token.{Token, tokenAt}
+use Rattle.tokens.specs.Token.{Token, tokenAt, Positions}
 use Rattle.tokens.specs.Kind.{Takes, Returns, Assign, OpenParen, CloseParen}
 use Rattle.grammar.specs.Reading.{Argument, Entry, Reading, NONE, arguments}
 use Rattle.grammar.specs.Rules.{Rules}
@@ -27,6 +26,7 @@ use Rattle.grammar.specs.Tables.{recordOf, NameWords, ParenTable, parenT
 use Rattle.grammar.specs.FileTables.{Perhaps, nothingThere, oneThere, TypedWords, typedWords, CountAt, noCount, count, SignAt, noSign, sign, ValueAt, literalValue, pointerValue, MacroAt, macroAt, fnAt, testAt, EntryTable, noEntries, entry, TableAt, jumpTableAt, packedTableAt, codeTableAt, Head, Words, DefinitionAt, importAt, functionAt, eventAt, constantDefinedAt, errorAt, macroDefinedAt, tableDefinedAt, definitionWords, FileTable, noDefinitions, defined, Braced, StatementsOf}
 use Rattle.grammar.proofs.Standing.{Standing, standing-head, standing-tail, standing-front, standing-back}
 use Rattle.grammar.proofs.FileRecorded.{form-many}
+use Rattle.grammar.proofs.FileSound.{defined-range}
 use Rattle.grammar.proofs.Demand.{body-some}
 use Rattle.grammar.proofs.Tabled.{Stored, stands-head, stored-front, stored-back, in-parens, name-tabled, name-rises, list-rises, flat-rises, arguments-front, arguments-back, body-tabled, body-walked}
 
@@ -224,11 +224,6 @@ definition-tabled m kept pos statements table i a p xs d (define {xs = us} {f = 
     r (standing-tail kept (suc (suc p)) n us hn) hs ha
 
 -- ---- files
-
--- a definition begins at its place and ends behind its tokens
-defined-range : (m : Rules) (p : ℕ) (xs : List Token) (d : Definition) → Defined m p xs d → (d .first ≡ p) × (d .end ≡ p + length xs) × (p < d .end)
-defined-range m p xs d (include i s e f) = (refl, omega arith, omega arith)
-defined-range m p xs d (define t k n e f r) = (refl, omega arith, omega arith)
 
 file-moved : {kept : List Token} {pos : Positions} {definitions statements table : List ℕ} {d k i n a m p p′ q q′ : ℕ} → p ≡ p′ → q ≡ q′ → FileTable kept pos definitions statements table d k i n a m p q → FileTable kept pos definitions statements table d k i n a m p′ q′
 file-moved f g h = rw g at (rw f at h)

@@ -7,8 +7,7 @@ use mathlib.Core.Path.{_≡_, sym, ap, _∙_}
 use mathlib.Core.List.{List, _++_}
 use lib.ListN.{length, take, drop}
 use lib.Seq.{drop-drop, take-add}
-use Rattle.tokens.specs.Token.{Token, part, tokenAt}
-use Rattle.tokens.specs.Place.{Positions}
+use Rattle.tokens.specs.Token.{Token, part, tokenAt, Positions}
 use Rattle.grammar.specs.FileTables.{FileTable, noDefinitions, defined}
 use Rattle.grammar.specs.TextRanges.{InOrder, laidOut, LaidOut}
 use Rattle.grammar.proofs.FileTabled.{definition-rises, file-rises}
@@ -20,15 +19,15 @@ part-joins text a b c h k =
     let from : drop (b - a) (drop a text) ≡ drop b text = let e : a + (b - a) ≡ b = omega arith in drop-drop (b - a) a text ∙ ap (λ (n : ℕ). drop n text) e in
     ap (λ (n : ℕ). take n (drop a text)) both ∙ take-add (b - a) (c - b) (drop a text) ∙ ap (λ (l : List ℕ). part text a b ++ take (c - b) l) from
 
--- the kept tokens stand so in a text: each starts before it ends, ends before the next starts, and within the text; and the bytes there are its text
+-- the kept tokens stand so in a text: each starts at or before its end, ends at or before the next one's start, and within the text; and the bytes there are its text
 pub record InText (text : List ℕ) (kept : List Token) (pos : Positions) : Type 0 where
   pub forwards : (p : ℕ) → p < length kept → pos .start p ≤ pos .end p
   pub onwards : (p : ℕ) → suc p < length kept → pos .end p ≤ pos .start (suc p)
   pub within : (p : ℕ) → p < length kept → pos .end p ≤ length text
-  pub there : (p : ℕ) → tokenAt kept p .text ≡ part text (pos .start p) (pos .end p)
+  pub there : (p : ℕ) → p < length kept → tokenAt kept p .text ≡ part text (pos .start p) (pos .end p)
 
 module _ (text : List ℕ) (kept : List Token) (pos : Positions) (lies : InText text kept pos) where
-  -- a token starts before any later one ends
+  -- a token starts at or before the end of any later one
   spans : (p n : ℕ) → suc (p + n) ≤ length kept → pos .start p ≤ pos .end (p + n)
   spans p zero h = rw (add-zero p) (lies .forwards p (omega arith))
   spans p (suc n) h =
@@ -37,12 +36,12 @@ module _ (text : List ℕ) (kept : List Token) (pos : Positions) (lies : InText 
 
   laid-out : (p n : ℕ) → suc (p + n) ≤ length kept → part text (pos .start p) (pos .end (p + n)) ≡ laidOut text kept pos p n
   unfolding laidOut
-  laid-out p zero h = rw (add-zero p) (sym (lies .there p))
+  laid-out p zero h = rw (add-zero p) (sym (lies .there p (omega arith)))
   laid-out p (suc n) h =
       let last : ℕ = suc p + n in
       let next : pos .end p ≤ pos .start (suc p) = lies .onwards p (omega arith) in
       let later : pos .start (suc p) ≤ pos .end last = spans (suc p) n (omega arith) in
-      rw (add-suc p n, ← suc-add p n, lies .there p)
+      rw (add-suc p n, ← suc-add p n, lies .there p (omega arith))
       (part-joins text (pos .start p) (pos .end p) (pos .end last) (lies .forwards p (omega arith)) (omega arith)
       ∙ ap (λ (l : List ℕ). part text (pos .start p) (pos .end p) ++ l)
       (part-joins text (pos .end p) (pos .start (suc p)) (pos .end last) next later
@@ -68,7 +67,7 @@ module _ (text : List ℕ) (kept : List Token) (pos : Positions) (lies : InText 
         let up : p < e = definition-rises kept statements table i c a l p e w x in
         let far : e ≤ q = file-rises kept pos definitions statements table (suc d) o (i + c) t (a + l) g e q rest in
         let last : p + (e - p - 1) ≡ e - 1 = omega arith in
-        rw (add-zero d) (record { some = rw r up; bytes = rw r (rw last at (laid-out p (e - p - 1) (omega arith))) })
+        rw (add-zero d) (record { some = rw r up; starts = rw r; ends = rw r; bytes = rw r (rw last at (laid-out p (e - p - 1) (omega arith))) })
     each d k i n a m p q (defined {k = o} {n = c} {l = t} {m = l} {h = g} {e = e} w x r rest) h (suc j) below =
         rw (add-suc d j, ← suc-add d j) (each (suc d) o (i + c) t (a + l) g e q rest h j (omega arith))
 

@@ -4,8 +4,7 @@ use Prim.Native.String.{String}
 use mathlib.Core.List.{List, [], _∷_, _++_, map}
 use lib.ListN.{length, getD}
 use Rattle.tokens.specs.Byte.{bytes}
-use Rattle.tokens.specs.Token.{Token}
-use Rattle.tokens.specs.Place.{Positions}
+use Rattle.tokens.specs.Token.{Token, Positions}
 use Rattle.tokens.specs.Kind.{Eof, Whitespace, Comment, Include, Define, Pound, Macro, Fn, Test, Function, Event, Constant, Error, JumpTable, JumpTablePacked, CodeTable, Takes, Returns, View, Indexed, Calldata, Memory, Assign, OpenParen, CloseParen, OpenBrace, CloseBrace, Comma, Colon, FreeStoragePointer, Ident, Label, Literal, Str, PrimitiveType}
 use Rattle.grammar.specs.Reading.{NONE}
 use Rattle.grammar.specs.FileReading.{Definition}
@@ -31,30 +30,32 @@ fileOutcome kept pos x =
       arguments = recordsOf fileArgumentRecords x;
     }
 
--- a row: the tokens before Eof, and the outcome, wherever they stand in the text
+-- a row: the tokens before Eof, and the outcome, of whose definition records the last two words are left out
 pub record FileRow : Type 0 where
   pub input : List Sketch
-  pub outcome : Positions → FileOutcome
+  pub outcome : FileOutcome
 
 -- a file and its Eof
 abbrev pub ended : List Sketch → List Sketch
 ended ts = ts ++ (mark Eof ∷ [])
 
--- request [7]: a definition record of which a row has all words but the last two: where the first token of its range starts, and where the last one ends
+-- request [7]: with the last two words, where the first token of its range starts and where the last one ends
 abbrev pub placed : Positions → List ℕ → List ℕ
 placed pos words = words ++ (pos .start (getD words 2 0) ∷ pos .end (getD words 3 0 - 1) ∷ [])
+
+-- the whole outcome, by where the tokens stand in the text
+abbrev pub outcomeAt : FileRow → Positions → FileOutcome
+outcomeAt row pos =
+    record { answers = row .outcome .answers; definitions = map (placed pos) (row .outcome .definitions); statements = row .outcome .statements; arguments = row .outcome .arguments }
 
 -- a row that is accepted: cursor and counts; definition records without their last two words; statement and argument records
 abbrev pub acceptedFile : List Sketch → List ℕ → List (List ℕ) → List (List ℕ) → List (List ℕ) → FileRow
 acceptedFile input answers definitions statements arguments =
-    record {
-      input = input;
-      outcome = λ pos. record { answers = 0 ∷ (answers ++ (0 ∷ 0 ∷ [])); definitions = map (placed pos) definitions; statements = statements; arguments = arguments };
-    }
+    record { input = input; outcome = record { answers = 0 ∷ (answers ++ (0 ∷ 0 ∷ [])); definitions = definitions; statements = statements; arguments = arguments } }
 
 -- a row that is refused: the answer
 abbrev pub refusedFileWith : List Sketch → List ℕ → FileRow
-refusedFileWith input answers = record { input = input; outcome = λ pos. record { answers = answers; definitions = []; statements = []; arguments = [] } }
+refusedFileWith input answers = record { input = input; outcome = record { answers = answers; definitions = []; statements = []; arguments = [] } }
 
 -- number and cursor, and no type
 abbrev pub refusalFile : List Sketch → ℕ → ℕ → FileRow
@@ -186,53 +187,72 @@ strictFiles =
 
 -- ---- request [7]: files by their bytes
 
--- a text cut into tokens, white space and comments among them: kind and letters of each. One behind the other the letters are the text
-abbrev pub Cut : Type 0
-Cut = List (ℕ × String)
+-- a piece of a text: a token, also of white space or a comment, by its kind and its letters; or letters that no token covers
+pub data Piece : Type 0 where
+  token : ℕ → String → Piece
+  uncovered : String → Piece
 
-unfoldable pub textOf : Cut → List ℕ
+-- its letters
+abbrev pub letters : Piece → List ℕ
+letters (token kind text) = bytes text
+letters (uncovered text) = bytes text
+
+-- the words of a token at a byte, before those of the rest
+abbrev pub wordsOf : Piece → ℕ → List ℕ → List ℕ
+wordsOf (token kind text) b rest = kind ∷ b ∷ (b + length (bytes text)) ∷ 0 ∷ rest
+wordsOf (uncovered text) b rest = rest
+
+-- the text that pieces are, one behind the other
+unfoldable pub textOf : List Piece → List ℕ
 textOf [] = []
-textOf (c ∷ cs) = bytes (c .1) ++ textOf cs
+textOf (c ∷ cs) = letters c ++ textOf cs
 
--- the words of its tokens, the first of which starts at byte b, and of Eof
-unfoldable pub wordsFrom : ℕ → Cut → List ℕ
+-- the words of their tokens, where the first piece stands at byte b, and of Eof
+unfoldable pub wordsFrom : ℕ → List Piece → List ℕ
 wordsFrom b [] = Eof ∷ b ∷ b ∷ 0 ∷ []
-wordsFrom b (c ∷ cs) = c .0 ∷ b ∷ (b + length (bytes (c .1))) ∷ 0 ∷ wordsFrom (b + length (bytes (c .1))) cs
+wordsFrom b (c ∷ cs) = wordsOf c b (wordsFrom (b + length (letters c)) cs)
 
 -- a row: the text, and the outcome
 pub record TextRow : Type 0 where
-  pub cut : Cut
+  pub cut : List Piece
   pub outcome : FileOutcome
 
 -- a row without statements and arguments, which is accepted: cursor and definition records
-abbrev pub acceptedText : Cut → ℕ → List (List ℕ) → TextRow
+abbrev pub acceptedText : List Piece → ℕ → List (List ℕ) → TextRow
 acceptedText cut cursor definitions =
     record { cut = cut; outcome = record { answers = acceptance cursor (length definitions) 0 0; definitions = definitions; statements = []; arguments = [] } }
 
-abbrev pub space : ℕ × String
-space = (Whitespace, " ")
+-- one space
+abbrev pub space : Piece
+space = token Whitespace " "
 
 -- #define constant C = 0x01
-abbrev pub aConstant : Cut
-aConstant = (Define, "#define") ∷ space ∷ (Constant, "constant") ∷ space ∷ (Ident, "C") ∷ space ∷ (Assign, "=") ∷ space ∷ (Literal, "0x01") ∷ []
+abbrev pub aConstant : List Piece
+aConstant = token Define "#define" ∷ space ∷ token Constant "constant" ∷ space ∷ token Ident "C" ∷ space ∷ token Assign "=" ∷ space ∷ token Literal "0x01" ∷ []
 
 -- #define macro M()={}
-abbrev pub aBareMacro : Cut
-aBareMacro = (Define, "#define") ∷ space ∷ (Macro, "macro") ∷ space ∷ (Ident, "M") ∷ (OpenParen, "(") ∷ (CloseParen, ")") ∷ (Assign, "=") ∷ (OpenBrace, "{") ∷ (CloseBrace, "}") ∷ []
+abbrev pub aBareMacro : List Piece
+aBareMacro = token Define "#define" ∷ space ∷ token Macro "macro" ∷ space ∷ token Ident "M" ∷ token OpenParen "(" ∷ token CloseParen ")" ∷ token Assign "=" ∷ token OpenBrace "{" ∷ token CloseBrace "}" ∷ []
 
 -- from byte 0 up to 25
 abbrev pub oneConstant : TextRow
 oneConstant = acceptedText aConstant 5 ((4 ∷ 2 ∷ 0 ∷ 5 ∷ 0 ∷ 0 ∷ 0 ∷ 0 ∷ 0 ∷ 0 ∷ 1 ∷ 4 ∷ 0 ∷ 25 ∷ []) ∷ [])
 
+-- request [7]: definitions in a text of their own
 abbrev pub textRows : List TextRow
 textRows =
     oneConstant
     -- behind a comment of seven bytes both move by seven; white space behind moves nothing
-    ∷ acceptedText ((Comment, "/*fee*/") ∷ (aConstant ++ ((Whitespace, "   ") ∷ []))) 5 ((4 ∷ 2 ∷ 0 ∷ 5 ∷ 0 ∷ 0 ∷ 0 ∷ 0 ∷ 0 ∷ 0 ∷ 1 ∷ 4 ∷ 7 ∷ 32 ∷ []) ∷ [])
+    ∷ acceptedText (token Comment "/*fee*/" ∷ (aConstant ++ (token Whitespace "   " ∷ []))) 5 ((4 ∷ 2 ∷ 0 ∷ 5 ∷ 0 ∷ 0 ∷ 0 ∷ 0 ∷ 0 ∷ 0 ∷ 1 ∷ 4 ∷ 7 ∷ 32 ∷ []) ∷ [])
     -- what stands between two lies in neither range
-    ∷ acceptedText (aConstant ++ ((Comment, "/**/") ∷ space ∷ aConstant)) 10
+    ∷ acceptedText (aConstant ++ (token Comment "/**/" ∷ space ∷ aConstant)) 10
     ((4 ∷ 2 ∷ 0 ∷ 5 ∷ 0 ∷ 0 ∷ 0 ∷ 0 ∷ 0 ∷ 0 ∷ 1 ∷ 4 ∷ 0 ∷ 25 ∷ []) ∷ (4 ∷ 7 ∷ 5 ∷ 10 ∷ 0 ∷ 0 ∷ 0 ∷ 0 ∷ 0 ∷ 0 ∷ 1 ∷ 9 ∷ 30 ∷ 55 ∷ []) ∷ [])
     -- where nothing stands between them, one ends where the next starts
     ∷ acceptedText (aBareMacro ++ aConstant) 13
     ((6 ∷ 2 ∷ 0 ∷ 8 ∷ 0 ∷ 0 ∷ 0 ∷ 0 ∷ 0 ∷ 0 ∷ 0 ∷ 0 ∷ 0 ∷ 20 ∷ []) ∷ (4 ∷ 10 ∷ 8 ∷ 13 ∷ 0 ∷ 0 ∷ 0 ∷ 0 ∷ 0 ∷ 0 ∷ 1 ∷ 12 ∷ 20 ∷ 45 ∷ []) ∷ [])
+    -- an end that no token covers is in no range: #include 'x', where the list leaves out the quotes
+    ∷ acceptedText (token Include "#include" ∷ uncovered " '" ∷ token Str "x" ∷ uncovered "'" ∷ []) 2 ((1 ∷ 1 ∷ 0 ∷ 2 ∷ 0 ∷ 0 ∷ 0 ∷ 0 ∷ 0 ∷ 0 ∷ 0 ∷ 0 ∷ 0 ∷ 11 ∷ []) ∷ [])
+    -- an import of no bytes stands where its tokens do
+    ∷ acceptedText (aConstant ++ (space ∷ token Include "" ∷ token Str "" ∷ [])) 7
+    ((4 ∷ 2 ∷ 0 ∷ 5 ∷ 0 ∷ 0 ∷ 0 ∷ 0 ∷ 0 ∷ 0 ∷ 1 ∷ 4 ∷ 0 ∷ 25 ∷ []) ∷ (1 ∷ 6 ∷ 5 ∷ 7 ∷ 0 ∷ 0 ∷ 0 ∷ 0 ∷ 0 ∷ 0 ∷ 0 ∷ 0 ∷ 26 ∷ 26 ∷ []) ∷ [])
     ∷ []

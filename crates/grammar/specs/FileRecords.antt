@@ -3,8 +3,8 @@
 use Prim.Native.Nat.{ℕ, suc, _+_, _-_}
 use mathlib.Core.List.{List, [], _∷_, _++_, map}
 use lib.ListN.{length}
+use Rattle.tokens.specs.Token.{Positions}
 use Rattle.tokens.specs.Number.{importDefinition, functionDefinition, eventDefinition, constantDefinition, errorDefinition, macroDefinition, fnDefinition, testDefinition, jumpTableDefinition, packedTableDefinition, codeTableDefinition, labelCallType, codeType}
-use Rattle.tokens.specs.Place.{Positions}
 use Rattle.grammar.specs.Reading.{Argument}
 use Rattle.grammar.specs.Records.{argumentRecord, allArguments, statementRecords, statementCount}
 use Rattle.grammar.specs.FileReading.{Value, literalAt, pointerAt, MacroSort, theMacro, theFn, theTest, TableSort, jumpTable, packedTable, codeTable, TableEntry, Form, anImport, aFunction, anEvent, aDefinedConstant, anError, aMacro, aTable, Definition, sizeOf}
@@ -103,20 +103,21 @@ valueWords (literalAt p) = 1 ∷ p ∷ []
 valueWords (pointerAt p) = 2 ∷ p ∷ []
 
 -- "A, B: takes, returns; a function's type, then 0; .. a table's size, 0; else 0, 0"
-abbrev pub lastWords : Form → List ℕ
-lastWords anImport = 0 ∷ 0 ∷ []
-lastWords (aFunction inputs type outputs) = type ∷ 0 ∷ []
-lastWords (anEvent args) = 0 ∷ 0 ∷ []
-lastWords (aDefinedConstant v) = valueWords v
-lastWords (anError args) = 0 ∷ 0 ∷ []
-lastWords (aMacro sort args takes returns r) = takes ∷ returns ∷ []
-lastWords (aTable sort es) = sizeOf sort es ∷ 0 ∷ []
+abbrev pub formWords : Form → List ℕ
+formWords anImport = 0 ∷ 0 ∷ []
+formWords (aFunction inputs type outputs) = type ∷ 0 ∷ []
+formWords (anEvent args) = 0 ∷ 0 ∷ []
+formWords (aDefinedConstant v) = valueWords v
+formWords (anError args) = 0 ∷ 0 ∷ []
+formWords (aMacro sort args takes returns r) = takes ∷ returns ∷ []
+formWords (aTable sort es) = sizeOf sort es ∷ 0 ∷ []
 
 -- the argument records before a definition's statements, where a stand before the definition
 abbrev pub behindDeclared : ℕ → Form → ℕ
 behindDeclared a f = a + length (inputsOf f) + length (outputsOf f)
 
--- request [7], in bytes of the text: "its first token's start and its last token's end"
+-- request [7], in bytes of the text: "its first token's start and its last token's end". The last token is the last kept one of its range: white space and comments
+-- behind it lie outside
 abbrev pub textRange : Positions → Definition → List ℕ
 textRange pos d = pos .start (d .first) ∷ pos .end (d .end - 1) ∷ []
 
@@ -133,7 +134,7 @@ definitionRecord pos i a d =
     ∷ length (outputsOf (d .form))
     ∷ i
     ∷ formCount (d .form)
-    ∷ (lastWords (d .form) ++ textRange pos d)
+    ∷ (formWords (d .form) ++ textRange pos d)
 
 -- the definition records of a file, behind i statement and a argument records
 unfoldable pub definitionRecords : Positions → ℕ → ℕ → List Definition → List (List ℕ)

@@ -1,6 +1,6 @@
 -- What a reader of the tables relies on, for files: each word of each definition record of an accepted call, and of the records it points at, said by the tokens
--- at its places: their kinds, a Num's number, the length of an entry's text, that the name of an argument with a type is not reserved, and where the first and the
--- last token of a definition stand in the text. No reading and no parser
+-- at its places: their kinds, a Num's number, the length of an entry's text, that the name of an argument with a type is not reserved; and the last two words of a
+-- definition by where its first and its last token stand in the text. No reading and no parser
 -- stands here. The numbers of a family are those of Tables: `i n` statements, `a m` arguments, `p q` the range.
 use Prim.Native.Nat.{ℕ, suc, _+_, _-_, _*_, _/_, _≤_, _<_}
 use mathlib.Core.Path.{_≡_}
@@ -8,8 +8,7 @@ use mathlib.Core.Bool.{Bool, true, false}
 use mathlib.Core.List.{List, [], _∷_}
 use lib.ListN.{length, getD}
 use Rattle.tokens.specs.Number.{definitionWidth, statementWidth, nameForm, labelCallType, codeType, importDefinition, functionDefinition, eventDefinition, constantDefinition, errorDefinition, macroDefinition, fnDefinition, testDefinition, jumpTableDefinition, packedTableDefinition, codeTableDefinition}
-use Rattle.tokens.specs.Token.{Token, tokenAt}
-use Rattle.tokens.specs.Place.{Positions}
+use Rattle.tokens.specs.Token.{Token, tokenAt, Positions}
 use Rattle.tokens.specs.Kind.{Include, Define, Macro, Fn, Test, Function, Event, Constant, Error, JumpTable, JumpTablePacked, CodeTable, Takes, Returns, Assign, OpenParen, CloseParen, OpenBrace, CloseBrace, FreeStoragePointer, Ident, Literal, Num, Str, PrimitiveType}
 use Rattle.grammar.specs.Reading.{NONE}
 use Rattle.grammar.specs.Grammar.{Location}

@@ -2,20 +2,22 @@
 use Prim.Native.Nat.{ℕ, zero, suc, _-_, _≤_, _<_}
 use mathlib.Core.Path.{_≡_}
 use mathlib.Core.List.{List, _++_}
-use Rattle.tokens.specs.Token.{Token, part, tokenAt}
-use Rattle.tokens.specs.Place.{Positions}
+use Rattle.tokens.specs.Token.{Token, part, tokenAt, Positions}
 use Rattle.grammar.specs.FileTables.{definitionWord}
 
--- the places and the bytes of definition record d
+-- the place of the first token of definition record d
 abbrev pub firstPlace : List ℕ → ℕ → ℕ
 firstPlace = definitionWord 2
 
+-- the place behind its last
 abbrev pub endPlace : List ℕ → ℕ → ℕ
 endPlace = definitionWord 3
 
+-- the byte at which its range starts
 abbrev pub startByte : List ℕ → ℕ → ℕ
 startByte = definitionWord 12
 
+-- the byte before which it ends
 abbrev pub endByte : List ℕ → ℕ → ℕ
 endByte = definitionWord 13
 
@@ -30,7 +32,10 @@ unfoldable pub laidOut : List ℕ → List Token → Positions → ℕ → ℕ �
 laidOut text kept pos p zero = tokenAt kept p .text
 laidOut text kept pos p (suc n) = tokenAt kept p .text ++ (part text (pos .end p) (pos .start (suc p)) ++ laidOut text kept pos (suc p) n)
 
--- definition record d has tokens, and the bytes of its range are their texts and what stands between them
+-- definition record d has tokens, its range is that from the first one's start to the last one's end, and the bytes of the range are their texts and what stands
+-- between them
 pub record LaidOut (text : List ℕ) (kept : List Token) (pos : Positions) (definitions : List ℕ) (d : ℕ) : Type 0 where
   pub some : firstPlace definitions d < endPlace definitions d
+  pub starts : startByte definitions d ≡ pos .start (firstPlace definitions d)
+  pub ends : endByte definitions d ≡ pos .end (endPlace definitions d - 1)
   pub bytes : part text (startByte definitions d) (endByte definitions d) ≡ laidOut text kept pos (firstPlace definitions d) (endPlace definitions d - firstPlace definitions d - 1)

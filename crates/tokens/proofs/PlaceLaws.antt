@@ -11,8 +11,8 @@ use lib.Dec.{leb, ltb, eqb}
 use lib.ListN.{length, getD, take, drop, length-append}
 use lib.Seq.{sets-eq, take-at}
 use Rattle.tokens.specs.Kind.{kinds}
-use Rattle.tokens.specs.Token.{tokenCount, kindOf, startOf, endOf, extraOf}
-use Rattle.tokens.specs.Place.{fieldAt, endAt, Lined, FromDoor, Place}
+use Rattle.tokens.specs.Token.{tokenCount, kindOf, startOf, endOf, extraOf, Positions, positions}
+use Rattle.tokens.specs.Place.{fieldAt, Lined, FromDoor, Place}
 use Rattle.tokens.specs.WellFormed.{wholeGood, prevEnd, rangeGood, eofGood, contentsGood, goodAfter, good, WellFormed}
 use Rattle.tokens.specs.Kept.{keptOf}
 use Rattle.tokens.proofs.Laws.{and-left, and-right}
@@ -88,25 +88,29 @@ field-is : (j : ℕ) (words kept : List ℕ) (p : ℕ) → p < length kept → f
 unfolding fieldAt
 field-is j words kept p h = rw (lt-ltb _ _ h)
 
--- a kept token ends within the text
-pub kept-within : (text words : List ℕ) → WellFormed text words → (p : ℕ) → p < length (keptOf words) → endAt words (keptOf words) p ≤ length text
-kept-within text words formed p h =
-    rw (field-is 2 words (keptOf words) p h) (ranged text words formed (getD (keptOf words) p 0) (omega (arith, kept-rising words .high p h)) .within)
+module _ (text words : List ℕ) (formed : WellFormed text words) where
+  abbrev at : Positions
+  at = positions words (keptOf words)
 
-pub lined-kept : (text words : List ℕ) → WellFormed text words → Lined words (keptOf words)
-lined-kept text words formed =
-    record {
-      range = λ p h.
-          let r = kept-rising words in
-          rw (field-is 1 words (keptOf words) p h, field-is 2 words (keptOf words) p h)
-          (ranged text words formed (getD (keptOf words) p 0) (omega (arith, r .high p h)) .forwards);
-      next = λ p h.
-          let r = kept-rising words in
-          let here : p < length (keptOf words) = omega arith in
-          rw (field-is 2 words (keptOf words) p here, field-is 1 words (keptOf words) (suc p) h)
-          (ends-before text words formed (getD (keptOf words) p 0) (getD (keptOf words) (suc p) 0) (r .rises p h) (omega (arith, r .high (suc p) h)));
-      end = λ p h. omega (arith, short text words formed, kept-within text words formed p h);
-    }
+  -- a kept token starts at or before its end, and ends within the text
+  pub kept-range : (p : ℕ) → p < length (keptOf words) → (at .start p ≤ at .end p) × (at .end p ≤ length text)
+  kept-range p h = let r = ranged text words formed (getD (keptOf words) p 0) (omega (arith, kept-rising words .high p h)) in (r .forwards, r .within)
+
+  -- and at or before the start of the next
+  pub kept-next : (p : ℕ) → suc p < length (keptOf words) → at .end p ≤ at .start (suc p)
+  kept-next p h =
+      let r = kept-rising words in
+      ends-before text words formed (getD (keptOf words) p 0) (getD (keptOf words) (suc p) 0) (r .rises p h) (omega (arith, r .high (suc p) h))
+
+  lined-kept : Lined words (keptOf words)
+  lined-kept =
+      record {
+        range = λ p h. rw (field-is 1 words (keptOf words) p h, field-is 2 words (keptOf words) p h) (kept-range p h .0);
+        next = λ p h.
+            let here : p < length (keptOf words) = omega arith in
+            rw (field-is 2 words (keptOf words) p here, field-is 1 words (keptOf words) (suc p) h) (kept-next p h);
+        end = λ p h. rw (field-is 2 words (keptOf words) p h) (omega (arith, short text words formed, kept-range p h .1));
+      }
 
 -- what a well-formed list of so few tokens leaves
 from-door : (text words : List ℕ) → WellFormed text words → tokenCount words ≤ 65536 → FromDoor words (keptOf words)

@@ -21,7 +21,7 @@ module _ (text words kept : List ℕ) where
   unfolding view
   view-length = length-map kept (tokenOf text words)
 
-  view-inside : (p : ℕ) → p < length kept → tokenAt (view text words kept) p ≡ tokenOf text words (getD kept p 0)
+  pub view-inside : (p : ℕ) → p < length kept → tokenAt (view text words kept) p ≡ tokenOf text words (getD kept p 0)
   unfolding view
   view-inside p h = map-at (tokenOf text words) kept p eofToken 0 h
 

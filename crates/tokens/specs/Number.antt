@@ -134,6 +134,7 @@ secondEdition = 2
 abbrev pub tokenWidth : ℕ
 tokenWidth = 4
 
+-- 12 in document 01; request [7] adds two
 abbrev pub definitionWidth : ℕ
 definitionWidth = 14
 

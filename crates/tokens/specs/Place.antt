@@ -1,4 +1,4 @@
--- A token by its place in the kept list, and where it stands in the text. From `Numbered` on, inner: what the door promises of that list, and what every reader asks for.
+-- Inner: a token by its place in the kept list, and what the door promises of that list: what every reader asks for.
 use Prim.Native.Nat.{ℕ, suc, _+_, _-_, _*_, _≤_, _<_}
 use mathlib.Core.Path.{_≡_}
 use mathlib.Core.Bool.{cond}
@@ -8,12 +8,21 @@ use lib.Dec.{ltb}
 use Rattle.tokens.specs.Number.{tokenWidth, mostBytes, mostTokens}
 use Rattle.tokens.specs.Token.{Token, tokenCount, part, view}
 
+-- every number of a kept list is that of a token
+pub record Numbered (words kept : List ℕ) : Type 0 where
+  pub below : (p : ℕ) → p < length kept → getD kept p 0 < tokenCount words
+
 -- word j of the token at place p of the kept list, past its end 0: the kind (Eof there), the start, the end, the extra
 unfoldable pub fieldAt : ℕ → List ℕ → List ℕ → ℕ → ℕ
 fieldAt j words kept p = cond (ltb p (length kept)) (getD words (getD kept p 0 * tokenWidth + j) 0) 0
 
 abbrev pub kindAt : List ℕ → List ℕ → ℕ → ℕ
 kindAt = fieldAt 0
+
+-- a kind read at a place, and the bound by which a kind that is not Eof's lies inside the kept list
+pub record KindAt (words kept : List ℕ) (p r : ℕ) : Type 0 where
+  pub is : r ≡ kindAt words kept p
+  pub inside : r ≤ 4294967295 * (length kept - p)
 
 abbrev pub startAt : List ℕ → List ℕ → ℕ → ℕ
 startAt = fieldAt 1
@@ -28,28 +37,7 @@ extraAt = fieldAt 3
 abbrev pub textAt : List ℕ → List ℕ → List ℕ → ℕ → List ℕ
 textAt text words kept p = part text (startAt words kept p) (endAt words kept p)
 
--- where the kept tokens stand in the text, by their places: the byte at which a token starts, and the byte before which it ends. No rule looks at it: it comes in only
--- where the record of a definition is written (request [7])
-pub record Positions : Type 0 where
-  pub start : ℕ → ℕ
-  pub end : ℕ → ℕ
-
--- as the words of the token list have it
-abbrev pub positions : List ℕ → List ℕ → Positions
-positions words kept = record { start = startAt words kept; end = endAt words kept }
-
--- ---- what the door promises
-
--- every number of a kept list is that of a token
-pub record Numbered (words kept : List ℕ) : Type 0 where
-  pub below : (p : ℕ) → p < length kept → getD kept p 0 < tokenCount words
-
--- a kind read at a place, and the bound by which a kind that is not Eof's lies inside the kept list
-pub record KindAt (words kept : List ℕ) (p r : ℕ) : Type 0 where
-  pub is : r ≡ kindAt words kept p
-  pub inside : r ≤ 4294967295 * (length kept - p)
-
--- each kept token starts before it ends, ends before the next starts, and within a text
+-- each kept token starts at or before its end, ends at or before the next one's start, and within a text
 pub record Lined (words kept : List ℕ) : Type 0 where
   pub range : (p : ℕ) → p < length kept → startAt words kept p ≤ endAt words kept p
   pub next : (p : ℕ) → suc p < length kept → endAt words kept p ≤ startAt words kept (suc p)

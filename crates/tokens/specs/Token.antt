@@ -45,6 +45,16 @@ tokenOf text words i = record { kind = kindOf words i; text = part text (startOf
 unfoldable pub view : List ℕ → List ℕ → List ℕ → List Token
 view text words kept = map (tokenOf text words) kept
 
+-- where the tokens of a view stand in the text, by their places: the byte at which a token starts, and the byte before which it ends. No rule looks at it: only the
+-- record of a definition has it, and what is said of that record (request [7])
+pub record Positions : Type 0 where
+  pub start : ℕ → ℕ
+  pub end : ℕ → ℕ
+
+-- of the tokens whose numbers the kept list holds, as the words say
+abbrev pub positions : List ℕ → List ℕ → Positions
+positions words kept = record { start = λ p. startOf words (getD kept p 0); end = λ p. endOf words (getD kept p 0) }
+
 -- the token at a place of a view, past its end an Eof
 abbrev pub tokenAt : List Token → ℕ → Token
 tokenAt tokens p = getD tokens p eofToken

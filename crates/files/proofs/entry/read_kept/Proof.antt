@@ -2,8 +2,7 @@ use mathlib.Core.Bool.{true}
 use mathlib.Core.List.{[]}
 use mathlib.Core.Path.{sym}
 use borrow.Author.Needs.{needs}
-use Rattle.tokens.specs.Token.{view}
-use Rattle.tokens.specs.Place.{positions}
+use Rattle.tokens.specs.Token.{view, positions}
 use Rattle.grammar.specs.FileReader.{parse, fileAt}
 use Rattle.grammar.specs.Rules.{asks}
 use Rattle.grammar.proofs.Numbers.{file-ours}

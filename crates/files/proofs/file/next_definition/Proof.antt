@@ -1,6 +1,5 @@
 use lib.ListN.{length, drop}
-use Rattle.tokens.specs.Token.{view}
-use Rattle.tokens.specs.Place.{positions}
+use Rattle.tokens.specs.Token.{view, positions}
 use Rattle.grammar.specs.FileReader.{topLevel}
 use Rattle.grammar.specs.Rules.{asks}
 use Rattle.files.proofs.FileLaws.{added}
