@@ -250,6 +250,16 @@ static bool definition_is_good(const struct call *c, const uint32_t *d, size_t k
            is_run(d[6], d[7], n.arguments) && is_run(d[8], d[9], n.statements);
 }
 
+/* Request [7]: the bytes from the start of its first token to the end of its last one. They lie in the text, and behind
+ * those of the definition before it. */
+static bool text_is_good(const struct call *c, const uint32_t *d, size_t kept_count, uint32_t previous_end)
+{
+    if (d[2] >= d[3] || d[3] > kept_count)
+        return false;
+    const uint32_t *first = c->tokens + TOKEN * c->kept[d[2]], *last = c->tokens + TOKEN * c->kept[d[3] - 1];
+    return d[12] == first[1] && d[13] == last[2] && previous_end <= d[12] && d[12] <= d[13] && d[13] <= c->text_len;
+}
+
 static bool statement_is_good(const struct call *c, const uint32_t *s, size_t kept_count, struct counts n)
 {
     static const uint8_t NAMED[] = {0, LITERAL, OPCODE, IDENT, IDENT, LABEL, IDENT, IDENT, BUILTIN};
@@ -298,6 +308,18 @@ static bool records_are_good(const struct call *c, size_t kept_count, struct cou
     for (uint64_t i = 0; i < n.arguments; i++)
         if (!argument_is_good(c->arguments + ARGUMENT * i, kept_count))
             return false;
+    return true;
+}
+
+static bool texts_are_good(const struct call *c, size_t kept_count, struct counts n)
+{
+    uint32_t previous_end = 0;
+    for (uint64_t i = 0; i < n.definitions; i++) {
+        const uint32_t *d = c->definitions + DEFINITION * i;
+        if (!text_is_good(c, d, kept_count, previous_end))
+            return false;
+        previous_end = d[13];
+    }
     return true;
 }
 
@@ -521,6 +543,8 @@ static const char *broken_acceptance(const struct call *c, size_t kept_count)
         return "the words beyond the records are zero";
     if (!records_are_good(c, kept_count, n))
         return "a record's numbers, ranges and places are ones there are";
+    if (!texts_are_good(c, kept_count, n))
+        return "a definition's last words are the bytes from its first token to its last, one definition behind the other";
     if (!c->body && cursor != kept_count - 1)
         return "an accepted file's cursor is the place of Eof";
     if (c->body && (cursor <= c->start || cursor >= kept_count || kind_at(c, cursor - 1) != CLOSE_BRACE))

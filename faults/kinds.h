@@ -1,4 +1,5 @@
-/* Document 01's kinds of tokens, the widths of its records and answers, and the types that request [10] tells. */
+/* Document 01's kinds of tokens, the widths of its records, a definition's with request [7], and of answers, and the types
+ * that request [10] tells. */
 #ifndef KINDS_H
 #define KINDS_H
 
@@ -10,7 +11,7 @@ enum kind {
     PRIMITIVE, KINDS
 };
 
-enum { MOST_TEXT = 1048576, MOST_TOKENS = 65536, TOKEN = 4, DEFINITION = 12, STATEMENT = 8, ARGUMENT = 7 };
+enum { MOST_TEXT = 1048576, MOST_TOKENS = 65536, TOKEN = 4, DEFINITION = 14, STATEMENT = 8, ARGUMENT = 7 };
 
 /* Number, cursor, three counts, type, size. */
 enum { ANSWER_NUMBERS = 7 };

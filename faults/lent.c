@@ -11,6 +11,9 @@
 #include "memcheck.h"
 
 _Static_assert(SIMMEROTTER_ANSWER_NUMBERS == ANSWER_NUMBERS, "the header's answers are those that are lent and tested");
+_Static_assert(SIMMEROTTER_DEFINITION_WORDS == DEFINITION && SIMMEROTTER_STATEMENT_WORDS == STATEMENT &&
+                   SIMMEROTTER_ARGUMENT_WORDS == ARGUMENT,
+               "the header's records are those that are lent and tested");
 
 enum { PAGE = 4096, CANARY = 0xc5 };
 

@@ -1,7 +1,7 @@
 /*
  * Faults planted on purpose, to see that the search finds them. The linker puts these functions between the driver
- * and the library (--wrap); SLIP in the environment says which fault is added after the true call, or in its mode or
- * edition.
+ * and the library (--wrap); SLIP in the environment says which fault is added after the true call, or in its mode, its
+ * edition or what is lent to it.
  */
 #include <sched.h>
 #include <stdlib.h>
@@ -111,17 +111,57 @@ static void slip(const uint8_t *text, size_t text_len, const uint32_t *tokens, s
     }
 }
 
+/* Of where definitions stand in the text: an end that is the start of the token behind, a start that is that of the second
+ * token, an end by the place of a token in place of its number. */
+static void slip_in_text(const uint32_t *tokens, const uint32_t *kept, uint32_t *definitions, const uint64_t *answer)
+{
+    for (uint64_t i = 0; answer[0] == 0 && i < answer[2]; i++) {
+        uint32_t *d = definitions + SIMMEROTTER_DEFINITION_WORDS * i;
+        uint32_t first = d[SIMMEROTTER_DEFINITION_FIRST], end = d[SIMMEROTTER_DEFINITION_END];
+        switch (chosen_slip()) {
+        case 28: d[SIMMEROTTER_DEFINITION_TEXT_END] = tokens[SIMMEROTTER_TOKEN_WORDS * kept[end] + 1]; break;
+        case 29: d[SIMMEROTTER_DEFINITION_TEXT_START] = tokens[SIMMEROTTER_TOKEN_WORDS * kept[first + 1] + 1]; break;
+        case 30: d[SIMMEROTTER_DEFINITION_TEXT_END] = tokens[SIMMEROTTER_TOKEN_WORDS * (end - 1) + 2]; break;
+        default: break;
+        }
+    }
+}
+
+/* What a library would do that counts the room for definitions by 12 words a record: it takes more of them than fit, and
+ * writes those that do. */
+static void read_file_by_12(uint32_t mode, const uint8_t *text, size_t text_len, const uint32_t *tokens,
+                            size_t tokens_len, uint32_t *kept, size_t kept_len, uint32_t *definitions,
+                            size_t definitions_len, uint32_t *statements, size_t statements_len, uint32_t *arguments,
+                            size_t arguments_len, uint64_t *answer)
+{
+    size_t words = definitions_len / 12 * SIMMEROTTER_DEFINITION_WORDS + definitions_len % 12;
+    uint32_t *wide = calloc(words + 1, sizeof *wide);
+    if (wide == NULL)
+        exit(2);
+    __real_simmerotter_read_file(mode, text, text_len, tokens, tokens_len, kept, kept_len, wide, words, statements,
+                                 statements_len, arguments, arguments_len, answer);
+    if (passed_door(answer))
+        memcpy(definitions, wide, definitions_len * sizeof *wide);
+    free(wide);
+}
+
 void __wrap_simmerotter_read_file(uint32_t mode, const uint8_t *text, size_t text_len, const uint32_t *tokens,
                                   size_t tokens_len, uint32_t *kept, size_t kept_len, uint32_t *definitions,
                                   size_t definitions_len, uint32_t *statements, size_t statements_len,
                                   uint32_t *arguments, size_t arguments_len, uint64_t *answer)
 {
+    if (chosen_slip() == 31) {
+        read_file_by_12(mode, text, text_len, tokens, tokens_len, kept, kept_len, definitions, definitions_len,
+                        statements, statements_len, arguments, arguments_len, answer);
+        return;
+    }
     __real_simmerotter_read_file(mode_read(mode), text, text_len, tokens, tokens_len, kept, kept_len, definitions,
                                  definitions_len, statements, statements_len, arguments, arguments_len, answer);
     if (overlooks(answer))
         __real_simmerotter_read_file(0, text, text_len, tokens, tokens_len, kept, kept_len, definitions,
                                      definitions_len, statements, statements_len, arguments, arguments_len, answer);
     slip(text, text_len, tokens, tokens_len, kept, kept_len, definitions, definitions_len, answer);
+    slip_in_text(tokens, kept, definitions, answer);
 }
 
 void __wrap_simmerotter_read_body(uint32_t mode, uint32_t edition, const uint8_t *text, size_t text_len,

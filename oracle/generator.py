@@ -13,6 +13,8 @@ Families:
               PUSH0, first in a label, by themselves
   types       what refusal 7 tells: every name of a type and what is nearly one, in turn, as a name or as a type's token,
               everywhere that names are tested; then also where they are not
+  texts       where definitions stand in the text: files with white space, comments and bytes that no token covers before,
+              inside, between and behind definitions, with tokens and definitions that touch, with empty tokens
   illformed   lists that are not well formed, in every way of document 01, and near misses
   tables      tables exactly full, a word or a record short, ragged, empty; the kept list one short
   starts      bodies read from anywhere
@@ -72,6 +74,16 @@ CLOSE = [
     [b"abcd", b"abcd\0", b"\0\0\0\0abcd", b"abcd\0\0", b"abce", b"bbcd", b"abcdabcd"],
     [b"l", b"go", b"end", b"uint256", b"0x01", b"{"],
 ]
+# The shortest definitions; a macro's name is put in.
+SHORT = ['#include "x"', '#include ""', "#define constant C = 0x01", "#define constant C = FREE", "#define error E ( )",
+         "#define error E ( %bool a , )", "#define event E ( %bool )", "#define function f ( ) view returns ( )",
+         "#define jumptable T { a }", "#define jumptable__packed T ( ) = { }", "#define table T { ab }",
+         "#define macro M ( ) = { }", "#define fn M ( ) = { ADD }", "#define test M ( ) = { ~l : }"]
+# What may stand between tokens, letters of two, three and four bytes among it.
+BETWEEN = [b"", b" ", b"  ", b"\n\n", b"\n\t  ", b"// a", b"/* #define */", b"}", "\u00e4".encode(),
+           "// \u20ac \U0001d7d8".encode()]
+# Tokens whose texts are looked at.
+READ = (rules.IDENT, rules.LABEL, rules.LITERAL, rules.PRIMITIVE)
 MODES = ("0", "1", "mixed")
 # Modes that there are none.
 NO_MODES = [2, 3, 16, 255, 256, 257, 65536, 65537, 2147483648, 2147483649, 4294967294, 4294967295]
@@ -507,6 +519,11 @@ class Maker:
             out += self.definition()
         return out
 
+    def short_definition(self):
+        """One of few tokens."""
+        out = [T(word) for word in self.r.choice(SHORT).split()]
+        return [self.fresh() if token == T("M") else token for token in out]
+
     def base(self):
         """A list that follows the grammar, without Eof: (entry, start, tokens)."""
         if self.likely(0.5):
@@ -536,6 +553,28 @@ class Maker:
             tokens = tokens + [EOF]
         return notation.lay_out(tokens, self.some(b" ", b"", b" ", b"\n  "))
 
+    def scattered(self, tokens):
+        """Laid out with something between tokens now and then: dropped ones, bytes that no token covers; some are empty.
+        How often is the list's own."""
+        dropped, gaps, empty = self.some(0, 0.1, 0.3, 0.6), self.some(0, 0.1, 0.3, 1), self.some(0, 0, 0.1, 0.4)
+        out = []
+        for kind, own, extra in tokens + [EOF]:
+            while self.likely(dropped):
+                out += self.gap(gaps) + [(self.some(rules.WHITESPACE, rules.COMMENT), self.between(), 0)]
+            if kind not in READ and self.likely(empty):
+                own = b""
+            out += self.gap(gaps) + [(kind, own, extra)]
+        text, words = notation.lay_out(out, self.some(b"", b" "))
+        return text + self.some(b"", b"", b" ", b"rest"), words
+
+    def gap(self, often):
+        return [(notation.GAP, self.between(), 0)] if self.likely(often) else []
+
+    def between(self):
+        """Seldom more bytes than one byte counts, and more seldom than two bytes count."""
+        roll = self.r.random()
+        return b"." * 66000 if roll < 0.0003 else b"." * self.r.randint(200, 300) if roll < 0.01 else self.r.choice(BETWEEN)
+
     def roomy(self, entry, start, text, words):
         """Lengths with room for all, mostly not much more."""
         return self.lengths(entry, start, text, words,
@@ -554,7 +593,7 @@ class Maker:
                     pass
         if needs is None:
             needs = [self.r.randint(0, most) for most in refused]
-        room = [choose(width, need) for width, need in zip((12, 8, 7), needs)]
+        room = [choose(width, need) for width, need in zip(rules.WIDTHS, needs)]
         if entry == "B":
             room[0] = 0
         count = len(words) // 4 if kept is None else len(kept)
@@ -738,6 +777,25 @@ def types(m, seed, count):
         text, words = m.laid_out(tokens)
         room = m.lengths(entry, 0, text, words, lambda width, need: width * need, refused=(1, 1, 1))
         yield m.case(entry, 0, room, text, words)
+
+
+def texts(m, seed, count):
+    """Most have room for all; else the definitions lack a word or two for each, or one, or a record."""
+    for _ in range(count):
+        tokens = []
+        for _ in range(m.r.choice([1, 1, 2, 2, 3, 4])):
+            tokens += m.short_definition() if m.likely(0.75) else m.definition()
+        if m.likely(0.1):
+            mutate(m, tokens)
+        text, words = m.scattered(tokens)
+
+        def choose(width, need):
+            exact = width * need
+            if width != rules.WIDTHS[0] or m.likely(0.75):
+                return exact
+            return max(0, m.some(exact - 1, exact - need, exact - 2 * need, exact - width, exact + 1, exact + width - 1))
+
+        yield m.case("F", 0, m.lengths("F", 0, text, words, choose, refused=(1, 1, 1)), text, words)
 
 
 BAD_LITERALS = [b"", b"0", b"0x", b"x1", b"0X1", b"1x1", b"0xg", b"0x1g", b"0xG1", b"0x1/", b"0x1:", b"0x@1",
@@ -936,8 +994,12 @@ def limits(m, seed, count):
         lambda: of("B", [T("{"), T("F"), OPEN_PAREN] + [T("a"), comma] * 32765 + [CLOSE_PAREN, T("}")]),
         lambda: of("B", [space] * 65533 + small),
         lambda: of("B", [space] * 65534 + small),
-        lambda: of("F", [T("#include"), T('"x"')] * 32767),
+        # As many imports as there can be, with all the room for definitions that the port's program has, and one more. Then as
+        # many as that room holds, and with a word less of it.
+        lambda: of("F", [T("#include"), T('"x"')] * 32767, None, [65535, 393252, 0, 0]),
         lambda: of("F", [T("#include"), T('"x"')] * 32768),
+        lambda: of("F", [T("#include"), T('"x"')] * 28089, None, [56179, 393246, 0, 0]),
+        lambda: of("F", [T("#include"), T('"x"')] * 28089, None, [56179, 393245, 0, 0]),
         lambda: of("F", [w for i in range(8191) for w in
                          [T("#define"), T("macro"), T("m%05d" % i), OPEN_PAREN, CLOSE_PAREN, T("="), T("{"), T("}")]]),
         lambda: of("F", [T("#define"), T("table"), T("T"), T("{")] + [T("abc")] * 65530 + [T("}")]),
@@ -978,8 +1040,8 @@ def editions_of_limits(m, entry, words):
 
 
 FAMILIES = {"bodies": bodies, "files": files, "mutations": mutations, "exhaustive": exhaustive, "pushes": pushes,
-            "labels": labels, "zeros": zeros, "types": types, "illformed": illformed, "tables": tables, "starts": starts,
-            "odd": odd, "limits": limits}
+            "labels": labels, "zeros": zeros, "types": types, "texts": texts, "illformed": illformed, "tables": tables,
+            "starts": starts, "odd": odd, "limits": limits}
 
 
 def cases(family, seed, count, modes="0", editions="1"):

@@ -15,9 +15,11 @@ Words stand between spaces; each is one token:
   %bool                        PrimitiveType
   @f                           BuiltinFunction
   ~l                           Label
-  _  //                        Whitespace, Comment
+  _ ___ // //a                 Whitespace of so many spaces, Comment with its text
   EOF                          Eof
+  no:word                      the token that the word is, without a text
   'word                        Ident, whatever the word
+  ^text                        no token: bytes that none covers, in place of the space between two; ^ alone: they touch
   anything else                Ident
 
 Eof follows the list by itself unless the last word is `...`. \\xab in a word is that byte.
@@ -42,6 +44,8 @@ FIXED = {
 OPCODES = {"STOP": 0, "ADD": 1, "JUMP": 0x56, "JUMPI": 0x57, "JUMPDEST": 0x5b, "DUP1": 0x80,
            "SWAP1": 0x90, "RETURN": 0xf3}
 OPCODES.update({"PUSH%d" % n: 0x5f + n for n in range(33)})
+# No kind: a text that no token covers.
+GAP = -1
 SHOWN = {kind: word for word, kind in FIXED.items()}
 SHOWN_OPCODES = {byte: word for word, byte in OPCODES.items()}
 
@@ -54,6 +58,11 @@ def raw(word):
 
 def token(word):
     """(kind, text, extra) of a word."""
+    if word.startswith("no:"):
+        kind, _, extra = token(word[3:])
+        return kind, b"", extra
+    if word.startswith("^"):
+        return GAP, raw(word[1:]), 0
     if word in FIXED:
         return FIXED[word], (b"" if word == "EOF" else raw(word)), 0
     if word in OPCODES:
@@ -66,10 +75,10 @@ def token(word):
         return rules.LITERAL, raw(word[4:]), 0
     if word.isdigit() and word.isascii():
         return rules.NUM, raw(word), int(word)
-    if word == "_":
-        return rules.WHITESPACE, b" ", 0
-    if word == "//":
-        return rules.COMMENT, b"//", 0
+    if word.strip("_") == "":
+        return rules.WHITESPACE, b" " * len(word), 0
+    if word.startswith("//"):
+        return rules.COMMENT, raw(word), 0
     for mark, kind in (("%", rules.PRIMITIVE), ("@", rules.BUILTIN), ("~", rules.LABEL),
                        ("'", rules.IDENT)):
         if word.startswith(mark):
@@ -90,11 +99,17 @@ def tokens(line):
 
 
 def lay_out(list_of_tokens, between=b" "):
-    """Text and words of (kind, text, extra) tokens, with this between them."""
-    text, words = bytearray(), []
+    """Text and words of (kind, text, extra) tokens, with this between them, or with the text of a GAP that stands there."""
+    text, words, gap = bytearray(), [], None
     for kind, own, extra in list_of_tokens:
-        if text and own:
+        if kind == GAP:
+            gap = (gap or b"") + own
+            continue
+        if gap is not None:
+            text += gap
+        elif text and own:
             text += between
+        gap = None
         words += [kind, len(text), len(text) + len(own), extra]
         text += own
     return bytes(text), words
@@ -134,7 +149,7 @@ def shown(text, words):
         elif kind in (rules.PRIMITIVE, rules.BUILTIN, rules.LABEL):
             out.append({rules.PRIMITIVE: "%", rules.BUILTIN: "@", rules.LABEL: "~"}[kind] + own)
         elif kind == rules.IDENT and (own in FIXED or own in OPCODES or not re.match(r"[A-Za-z\\]", own)
-                                      or own.startswith("op:")):
+                                      or own.startswith(("op:", "lit:", "no:"))):
             out.append("'" + own)
         elif kind > 45:
             out.append("kind:%d" % kind)

@@ -48,6 +48,9 @@ SIZED = {b"uint": (UINT, 8, 256), b"int": (INT, 8, 256), b"bytes": (BYTES_N, 1, 
 # No size has more than three digits, and none begins with a zero.
 WITH_SIZE = re.compile(rb"(uint|int|bytes)([1-9][0-9]{0,2})")
 
+# The words of a record: a definition's (request [7]), a statement's, an argument's.
+WIDTHS = (14, 8, 7)
+
 LOCATIONS = {CALLDATA: 1, MEMORY: 2, STORAGE: 3}
 HEX = frozenset(b"0123456789abcdefABCDEF")
 
@@ -149,10 +152,11 @@ class Reading:
     Strict reading (request [1]) asks two things more of labels: their value pushes have their literals, and no two
     labels of a body have the same name."""
 
-    def __init__(self, kinds, texts, extras, place, strict=False):
+    def __init__(self, kinds, texts, extras, ranges, place, strict=False):
         self.kinds = kinds
         self.texts = texts
         self.extras = extras
+        self.ranges = ranges
         self.place = place
         self.strict = strict
         self.definitions = []
@@ -393,7 +397,7 @@ class Reading:
         first = self.need(INCLUDE)
         name = self.need(STR)
         a, s = len(self.arguments), len(self.statements)
-        self.definitions.append((1, name, first, self.place, a, 0, a, 0, s, 0, 0, 0))
+        self.definition(1, name, first, a, 0, a, 0, s, 0, 0, 0)
 
     def define(self):
         first = self.need(DEFINE)
@@ -405,9 +409,14 @@ class Reading:
         name = self.need(IDENT)
         first_argument, first_statement = len(self.arguments), len(self.statements)
         arguments, outputs, a, b = rest(self, keyword, name)
-        self.definitions.append((number, name, first, self.place, first_argument, arguments,
-                                 first_argument + arguments, outputs, first_statement,
-                                 len(self.statements) - first_statement, a, b))
+        self.definition(number, name, first, first_argument, arguments, first_argument + arguments, outputs,
+                        first_statement, len(self.statements) - first_statement, a, b)
+
+    def definition(self, number, name, first, *runs):
+        """The record of a definition that ends here. Where it stands in the text is told last (request [7]): from the
+        start of its first token to the end of its last one, in bytes."""
+        (start, _), (_, end) = self.ranges[first], self.ranges[self.place - 1]
+        self.definitions.append((number, name, first, self.place, *runs, start, end))
 
     # Each of these goes to the definition's end and gives its declared arguments, its outputs, and
     # the record's A and B.
@@ -503,13 +512,14 @@ DEFINITIONS = {
 
 def read(entry, mode, start, text, words, kept, reading=Reading):
     """The reading of a well-formed list in mode 0 or 1, or Refused."""
-    kinds, texts, extras = [], [], []
+    kinds, texts, extras, ranges = [], [], [], []
     for number in kept:
         kind, first, end, extra = words[4 * number:4 * number + 4]
         kinds.append(kind)
         texts.append(text[first:end])
         extras.append(extra)
-    found = reading(kinds, texts, extras, start, mode == STRICT)
+        ranges.append((first, end))
+    found = reading(kinds, texts, extras, ranges, start, mode == STRICT)
     if entry == "B":
         found.body()
     else:
@@ -573,7 +583,7 @@ def answer(entry, mode, edition, start, lengths, text, words, reading=Reading):
         found = read(entry, mode, start, text, words, kept, reading)
     except Refused as no:
         return refusal(no.number, no.cursor, no.told), lists
-    tables = [(32, 12, found.definitions), (33, 8, found.statements), (34, 7, found.arguments)]
+    tables = list(zip((32, 33, 34), WIDTHS, (found.definitions, found.statements, found.arguments)))
     for (number, width, records), length in zip(tables, lengths[1:]):
         if len(records) > length // width:
             return refusal(number, len(records)), lists

@@ -54,7 +54,7 @@ impl Tables {
     /// Learns the need from a call with more than can be needed.
     fn exact(list: &List) -> Tables {
         let n = list.tokens();
-        let mut large = Tables { kept: vec![0; n], definitions: vec![0; 12 * n], statements: vec![0; 8 * n], arguments: vec![0; 7 * n] };
+        let mut large = Tables { kept: vec![0; n], definitions: vec![0; 14 * n], statements: vec![0; 8 * n], arguments: vec![0; 7 * n] };
         let answer = large.read(PLAIN, list);
         let [number, cursor, ..] = answer;
         assert_eq!(number, 0, "the list is refused at {cursor}");
@@ -62,7 +62,7 @@ impl Tables {
         let [definitions, statements, arguments] = if list.is_body { [0, answer[2], answer[3]] } else { [answer[2], answer[3], answer[4]] };
         Tables {
             kept: vec![0; cursor as usize + 1],
-            definitions: vec![0; 12 * definitions as usize],
+            definitions: vec![0; 14 * definitions as usize],
             statements: vec![0; 8 * statements as usize],
             arguments: vec![0; 7 * arguments as usize],
         }

@@ -1,7 +1,7 @@
 /*
- * Reads bodies and a file, and checks every number and word that the calls leave: the examples of docs/CASES.md, what modes and
- * editions differ in, and which type it was whose name no argument may have. Every lent list has a length of its own, so that
- * arguments in another order than the archive's would be seen.
+ * Reads bodies and files, and checks every number and word that the calls leave: the examples of docs/CASES.md, where a definition
+ * stands in the text, what modes and editions differ in, and which type it was whose name no argument may have. Every lent list has
+ * a length of its own, so that arguments in another order than the archive's would be seen.
  */
 #include <stdio.h>
 #include <string.h>
@@ -115,11 +115,13 @@ static void read_table(void)
         SIMMEROTTER_KIND_EOF, 23, 23, 0,
     };
     static const uint32_t wanted_kept[8] = {0, 1, 2, 3, 4, 5, 6, FILL};
-    static const uint32_t wanted_definitions[14] = {SIMMEROTTER_DEFINITION_CODE_TABLE, 2, 0, 6, 0, 0, 0, 0, 0, 1, 1, 0, 0, 0};
+    static const uint32_t wanted_definitions[16] = {
+        SIMMEROTTER_DEFINITION_CODE_TABLE, 2, 0, 6, 0, 0, 0, 0, 0, 1, 1, 0, 0, 23, 0, 0,
+    };
     static const uint32_t wanted_statements[11] = {SIMMEROTTER_STATEMENT_CODE, 4, 5, 1, 0, 0, 0, 4, 0, 0, 0};
     static const uint32_t wanted_arguments[5] = {0, 0, 0, 0, 0};
     static const uint64_t wanted[SIMMEROTTER_ANSWER_NUMBERS] = {SIMMEROTTER_ACCEPTED, 6, 1, 1, 0, 0, 0};
-    uint32_t kept[8], definitions[14], statements[11], arguments[5];
+    uint32_t kept[8], definitions[16], statements[11], arguments[5];
     uint64_t answer[SIMMEROTTER_ANSWER_NUMBERS];
 
     fill_answer(answer);
@@ -136,6 +138,54 @@ static void read_table(void)
     expect_words("table, arguments", arguments, wanted_arguments, LENGTH(arguments));
     if (definitions[SIMMEROTTER_DEFINITION_A] != 1) {
         printf("table: its size is not 1\n");
+        failures++;
+    }
+}
+
+static const char constant_text[] = "/* a */#define constant C = 0x01 \n";
+
+/* A constant between a comment and white space, into a table of so many words. */
+static void read_constant(const char *what, uint32_t *definitions, size_t definitions_len, const uint64_t *wanted,
+    const uint32_t *wanted_definitions)
+{
+    static const uint32_t tokens[] = {
+        SIMMEROTTER_KIND_COMMENT, 0, 7, 0, SIMMEROTTER_KIND_DEFINE, 7, 14, 0, SIMMEROTTER_KIND_CONSTANT, 15, 23, 0,
+        SIMMEROTTER_KIND_IDENT, 24, 25, 0, SIMMEROTTER_KIND_ASSIGN, 26, 27, 0, SIMMEROTTER_KIND_LITERAL, 28, 32, 0,
+        SIMMEROTTER_KIND_WHITESPACE, 32, 34, 0, SIMMEROTTER_KIND_EOF, 34, 34, 0,
+    };
+    static const uint32_t wanted_kept[6] = {1, 2, 3, 4, 5, 7};
+    uint32_t kept[6], nothing_here[1], nothing_there[1];
+    uint64_t answer[SIMMEROTTER_ANSWER_NUMBERS];
+
+    fill_answer(answer);
+    fill(kept, LENGTH(kept));
+    fill(definitions, definitions_len);
+    simmerotter_read_file(SIMMEROTTER_LENIENT, (const uint8_t *)constant_text, strlen(constant_text), tokens, LENGTH(tokens),
+        kept, LENGTH(kept), definitions, definitions_len, nothing_here, 0, nothing_there, 0, answer);
+    expect_answer(what, answer, wanted);
+    expect_words(what, kept, wanted_kept, LENGTH(kept));
+    expect_words(what, definitions, wanted_definitions, definitions_len);
+}
+
+/* A definition is cut out of the text by two words of its record. A table that is a word too short for it asks for one record. */
+static void read_where(void)
+{
+    static const uint64_t accepted[SIMMEROTTER_ANSWER_NUMBERS] = {SIMMEROTTER_ACCEPTED, 5, 1, 0, 0, 0, 0};
+    static const uint64_t refused[SIMMEROTTER_ANSWER_NUMBERS] = {SIMMEROTTER_DEFINITIONS_TOO_SMALL, 1, 0, 0, 0, 0, 0};
+    static const uint32_t record[SIMMEROTTER_DEFINITION_WORDS] = {
+        SIMMEROTTER_DEFINITION_CONSTANT, 2, 0, 5, 0, 0, 0, 0, 0, 0, SIMMEROTTER_VALUE_LITERAL, 4, 7, 32,
+    };
+    static const uint32_t zeros[SIMMEROTTER_DEFINITION_WORDS] = {0};
+    static const char wanted[] = "#define constant C = 0x01";
+    uint32_t definitions[SIMMEROTTER_DEFINITION_WORDS];
+    size_t start, end;
+
+    read_constant("constant, a word short", definitions, LENGTH(definitions) - 1, refused, zeros);
+    read_constant("constant", definitions, LENGTH(definitions), accepted, record);
+    start = definitions[SIMMEROTTER_DEFINITION_TEXT_START];
+    end = definitions[SIMMEROTTER_DEFINITION_TEXT_END];
+    if (end > strlen(constant_text) || end - start != strlen(wanted) || memcmp(constant_text + start, wanted, end - start) != 0) {
+        printf("constant: what is cut out is not the constant\n");
         failures++;
     }
 }
@@ -249,11 +299,12 @@ int main(void)
     read_push();
     read_short();
     read_table();
+    read_where();
     read_later_body();
     read_in_modes_and_editions();
     read_types();
     if (failures != 0)
         return 1;
-    printf("C: fourteen calls as they should be\n");
+    printf("C: sixteen calls as they should be\n");
     return 0;
 }

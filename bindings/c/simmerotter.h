@@ -12,8 +12,10 @@
  * Room that always suffices, for n tokens: n words of kept list, n / 2 definition records, n statement records, n argument
  * records. With less, a call answers 32 to 35 and its cursor says how many records (kept list: words) are needed.
  *
- * An answer has seven numbers, all of them written by every call. It had five before: a program that was built against an older
- * header lends too few, and a call writes beyond them. Build it again with this header before it is linked with this archive.
+ * A program that was built against an older header has to be built again with this one before it is linked with this archive:
+ * - An answer has seven numbers, all of them written by every call. It had five, and a call writes beyond those.
+ * - A definition's record has 14 words. It had 12: a table that is lent by records of 12 may be too small, and every record but the
+ *   first is looked for at the wrong word.
  *
  * After a call
  * - answer[SIMMEROTTER_NUMBER] is 0 if the input was accepted, else a refusal's number.
@@ -38,7 +40,7 @@ extern "C" {
 
 /* Words of a token and of each record, and numbers of an answer. */
 #define SIMMEROTTER_TOKEN_WORDS 4
-#define SIMMEROTTER_DEFINITION_WORDS 12
+#define SIMMEROTTER_DEFINITION_WORDS 14
 #define SIMMEROTTER_STATEMENT_WORDS 8
 #define SIMMEROTTER_ARGUMENT_WORDS 7
 #define SIMMEROTTER_ANSWER_NUMBERS 7
@@ -233,7 +235,11 @@ enum simmerotter_definition {
     /* Macro, fn, test: takes, returns. Function: one of simmerotter_function_type, 0. Constant: one of simmerotter_value, its
      * place. Table: its size in bytes, 0. Else 0, 0. */
     SIMMEROTTER_DEFINITION_A = 10,
-    SIMMEROTTER_DEFINITION_B = 11
+    SIMMEROTTER_DEFINITION_B = 11,
+    /* Its bytes in the text: where its first token starts and where its last one ends. So they hold all of its tokens with what
+     * stands between them, and not what stands behind: white space, comments, a closing quote that an import's Str leaves out. */
+    SIMMEROTTER_DEFINITION_TEXT_START = 12,
+    SIMMEROTTER_DEFINITION_TEXT_END = 13
 };
 
 enum simmerotter_definition_kind {

@@ -1,5 +1,5 @@
 //! The form for people: a line for each definition, argument and statement, with where it stands on the left and what it is
-//! on the right, indented under what it belongs to.
+//! on the right, indented under what it belongs to. A definition's line ends with its bytes in the text.
 
 use crate::arguments::{shown, Job};
 use crate::place::{clean, token_of, Lines};
@@ -66,7 +66,8 @@ impl<'a> Page<'a> {
 
     fn put_definition(&mut self, definition: Definition, text: &[u8], lengths: &mut Lengths) {
         let heading = heading(definition, |place| self.text_at(place, text), lengths);
-        self.put(definition.places(), 0, &heading);
+        let bytes = definition.text_range();
+        self.put(definition.places(), 0, &format!("{}; text bytes {}..{}", heading, bytes.start, bytes.end));
         self.put_declared(definition.arguments(), "argument");
         self.put_declared(definition.outputs(), "output");
         self.put_statements(definition.statements(), 1);

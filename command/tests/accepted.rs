@@ -35,36 +35,36 @@ fn every_kind_of_definition() {
     let wanted = "\
 accepted_kinds.huff: accepted: 15 definitions, 8 statements, 9 arguments; the end is place 144
 line:col  places        what
-1:1       0..2          import \"a\"
-2:1       2..19         function f, view
+1:1       0..2          import \"a\"; text bytes 0..11
+2:1       2..19         function f, view; text bytes 13..98
 2:22      6..9            argument uint256 calldata a
 2:43      10..11          argument address
 2:68      15..18          output uint256 memory r
-3:1       19..28        function g, pure
-4:1       28..37        function h, payable
-5:1       37..46        function i, nonpayable
-6:1       46..61        event E
+3:1       19..28        function g, pure; text bytes 99..138
+4:1       28..37        function h, payable; text bytes 139..181
+5:1       37..46        function i, nonpayable; text bytes 182..227
+6:1       46..61        event E; text bytes 228..303
 6:19      50..53          argument address indexed a
 6:39      54..58          argument uint256 indexed storage b
 6:67      59..60          argument uint256
-7:1       61..68        error R
+7:1       61..68        error R; text bytes 304..333
 7:19      65..67          argument uint256 x
-8:1       68..73        constant C = 0x0a
-9:1       73..78        constant D = the free storage pointer
-10:1      78..98        macro M, takes 2, returns 1, plain length 0 (edition 1)
+8:1       68..73        constant C = 0x0a; text bytes 334..359
+9:1       73..78        constant D = the free storage pointer; text bytes 360..403
+10:1      78..98        macro M, takes 2, returns 1, plain length 0 (edition 1); text bytes 404..470
 10:19     82..83          argument a
 10:23     84..86          argument calldata b
-11:1      98..107       fn N, takes 0, returns 0, plain length 1 (edition 1)
+11:1      98..107       fn N, takes 0, returns 0, plain length 1 (edition 1); text bytes 471..498
 11:22     105..106        opcode stop (0x00)
-12:1      107..120      test T, takes 0, returns 3, plain length 3 (edition 1)
+12:1      107..120      test T, takes 0, returns 3, plain length 3 (edition 1); text bytes 499..544
 12:38     118..119        literal 0x0100
-13:1      120..127      jump table J, size 64
+13:1      120..127      jump table J, size 64; text bytes 545..572
 13:23     124..125        label call x
 13:25     125..126        label call y
-14:1      127..137      packed jump table P, size 4
+14:1      127..137      packed jump table P, size 4; text bytes 573..614
 14:37     134..135        label call x
 14:39     135..136        label call y
-15:1      137..144      code table K, size 2
+15:1      137..144      code table K, size 2; text bytes 615..640
 15:19     141..142        code abc
 15:23     142..143        code d
 ";
@@ -185,9 +185,9 @@ fn lengths_of_macros_are_those_of_their_bodies() {
     let found = Input::new("accepted_lengths", text, &list(text, &tokens)).accepted(&[]);
     let headings: Vec<&str> = found.lines().filter_map(|line| line.split_once("macro ")).map(|(_, rest)| rest).collect();
     let wanted = [
-        "A, takes 0, returns 0, plain length 0 (edition 1)",
-        "B, takes 0, returns 0, plain length 6 (edition 1)",
-        "C, takes 0, returns 0, no plain length",
+        "A, takes 0, returns 0, plain length 0 (edition 1); text bytes 0..22",
+        "B, takes 0, returns 0, plain length 6 (edition 1); text bytes 26..74",
+        "C, takes 0, returns 0, no plain length; text bytes 75..102",
     ];
     assert_eq!(headings, wanted);
 }
@@ -214,6 +214,7 @@ fn a_large_file_takes_a_moment() {
     let before = std::time::Instant::now();
     let found = input.accepted(&[]);
     assert!(found.contains("7000 definitions, 7000 statements"));
-    assert_eq!(found.matches("plain length 1 (edition 1)\n").count(), 7_000);
+    assert_eq!(found.matches("plain length 1 (edition 1); text bytes ").count(), 7_000);
+    assert!(found.contains("; text bytes 937866..937900\n"), "the last one stands behind 6,999 of 134 bytes");
     assert!(before.elapsed().as_secs() < 20, "{:?}", before.elapsed());
 }

@@ -63,11 +63,11 @@ const FILE: &str = "\
 #define constant E = 0x00
 ";
 
-/// The file's definitions in words, without the statements under them.
+/// The file's definitions in words, without the statements under them and without where they stand.
 fn headings(options: &[&str]) -> Vec<String> {
     let found = input(&format!("file{}", options.len()), FILE).accepted(options);
-    let whats = found.lines().skip(2).map(|line| &line[24..]);
-    whats.filter(|what| !what.starts_with(' ')).map(str::to_string).collect()
+    let whats = found.lines().skip(2).map(|line| &line[24..]).filter(|what| !what.starts_with(' '));
+    whats.map(|what| what.split_once("; text bytes ").expect(what).0.to_string()).collect()
 }
 
 /// Its headings, with these lengths of A, B and C in an edition.

@@ -38,7 +38,7 @@ fn a_file_is_the_library_s_answer_and_tables() {
     let wanted = lines_of(
         format!("file {} {} {} {} {} {} {}", number, cursor, d, s, a, kind, size),
         &[
-            ("definition", 12, d as usize, &definitions),
+            ("definition", 14, d as usize, &definitions),
             ("statement", 8, s as usize, &statements),
             ("argument", 7, a as usize, &arguments),
         ],
@@ -124,5 +124,6 @@ fn the_largest_list_fits() {
     let found = Input::new("records_most", b"", &words).accepted(&["--records"]);
     assert_eq!(found.lines().count(), 32_768);
     assert!(found.starts_with("file 0 65534 32767 0 0 0 0\n"));
+    assert!(found.lines().skip(1).all(|line| line.split(' ').count() == 2 + 14));
     assert!(Room::new().read_file(b"", &words).is_ok());
 }

@@ -63,7 +63,7 @@ impl<'a> File<'a> {
         self.reading.text_of(place)
     }
 
-    /// The definitions' records, twelve words each.
+    /// The definitions' records, fourteen words each.
     pub fn definition_words(self) -> &'a [u32] {
         self.reading.tables.definitions.words()
     }

@@ -71,7 +71,7 @@ pub const MAX_TOKENS: usize = 65_536;
 pub const TOKEN_WORDS: usize = 4;
 
 /// Words of a definition's record.
-pub const DEFINITION_WORDS: usize = 12;
+pub const DEFINITION_WORDS: usize = 14;
 
 /// Words of a statement's record.
 pub const STATEMENT_WORDS: usize = 8;

@@ -240,7 +240,7 @@ mod tests {
         assert!(room.read_file(b"", &opcodes(MAX_TOKENS)).is_err());
         let enough = Enough::for_tokens(&opcodes(10));
         assert_eq!(room.tables.kept.lend(enough.kept).len(), 10);
-        assert_eq!(room.tables.definitions.lend(enough.definitions).len(), 5 * 12);
+        assert_eq!(room.tables.definitions.lend(enough.definitions).len(), 5 * 14);
         assert_eq!(room.tables.statements.lend(enough.statements).len(), 10 * 8);
         assert_eq!(room.tables.arguments.lend(enough.arguments).len(), 10 * 7);
     }

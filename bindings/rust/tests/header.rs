@@ -4,7 +4,7 @@ mod common;
 
 use common::{Lists, Source};
 use simmerotter::{
-    ArgumentForm, DefinitionKind, Edition, FunctionType, Kind, Location, Mode, Refusal, ReservedType, StatementKind,
+    ArgumentForm, DefinitionKind, Edition, FunctionType, Kind, Location, Mode, Refusal, ReservedType, Room, StatementKind,
 };
 use std::collections::HashMap;
 use std::fmt::Debug;
@@ -97,6 +97,21 @@ fn what_records_hold_is_the_same() {
     assert_eq!(assert_same("FUNCTION_", functions, |one| one.number()), 4);
     let locations = (1..20).filter_map(Location::from_number);
     assert_eq!(assert_same("LOCATION_", locations, |one| one.number()), 3);
+}
+
+#[test]
+fn the_words_of_a_definition_s_ranges_are_the_same() {
+    let constants = constants();
+    let source = Source::of_lines(&["#include \"a\"", "#define table T { abc }"]);
+    let mut room = Room::new();
+    let file = room.read_file(&source.text, &source.tokens).expect("a file that follows the rules");
+    for definition in file.definitions() {
+        let word = |name: &str| definition.record()[constants[name] as usize] as usize;
+        assert_eq!(word("DEFINITION_FIRST")..word("DEFINITION_END"), definition.places());
+        assert_eq!(word("DEFINITION_TEXT_START")..word("DEFINITION_TEXT_END"), definition.text_range());
+    }
+    assert_eq!(file.definitions().count(), 2);
+    assert_eq!(constants["DEFINITION_TEXT_END"] + 1, constants["DEFINITION_WORDS"], "the last word");
 }
 
 #[test]

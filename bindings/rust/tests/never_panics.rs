@@ -2,7 +2,7 @@
 
 mod common;
 
-use common::{answer_of, cases, refusal, room_in, Case, Chance, Lists, Setting, Source, SETTINGS};
+use common::{answer_of, assert_text_ranges, cases, refusal, room_in, Case, Chance, Lists, Setting, Source, SETTINGS};
 use simmerotter::raw::Answer;
 use simmerotter::{
     Argument, Body, Definition, DefinitionKind, File, Kind, Mode, Refusal, Refused, Room, Statement, TokenAt, MAX_TEXT,
@@ -152,10 +152,11 @@ impl Tally {
         match room.read_file(text, tokens) {
             Ok(file) => {
                 assert_eq!((answer[0], answer[1], &answer[5..]), (0, file.end() as u64, &[0, 0][..]));
-                assert_eq!(file.definition_words(), &lists.definitions[..file.definitions().count() * 12]);
+                assert_eq!(file.definition_words(), &lists.definitions[..file.definitions().count() * 14]);
                 assert_eq!(file.definitions().count() as u64, answer[2]);
                 assert_eq!(file.all_statements().count() as u64, answer[3]);
                 assert_eq!(file.arguments().count() as u64, answer[4]);
+                assert_text_ranges(file, text);
                 self.views += walk_file(file);
                 self.accept();
             }
@@ -210,7 +211,7 @@ fn walk_file(file: File<'_>) -> usize {
     let definitions: usize = file.definitions().map(walk_definition).sum();
     let statements: usize = file.all_statements().map(walk_statement).sum();
     let arguments: usize = file.arguments().map(walk_argument).sum();
-    for number in [0, file.kept().len(), usize::MAX / 12, usize::MAX] {
+    for number in [0, file.kept().len(), usize::MAX / 14, usize::MAX] {
         let views = (file.definition(number), file.statement(number), file.argument(number));
         assert!(!format!("{:?} {:?} {:?}", views, file.token(number), file.text_of(number)).is_empty());
     }
@@ -231,9 +232,10 @@ fn walk_body(body: Body<'_>) -> usize {
 }
 
 fn walk_definition(definition: Definition<'_>) -> usize {
-    assert_eq!(definition.record().len(), 12);
+    assert_eq!(definition.record().len(), 14);
     assert_eq!(definition.kind().number(), definition.record()[0]);
     assert!(definition.places().contains(&definition.name_place()));
+    assert_eq!(definition.text_range().len(), definition.text().len());
     assert!(definition.kind() == DefinitionKind::Import || !definition.name().is_empty());
     assert_eq!(definition.takes().is_some(), definition.returns().is_some());
     let values = [definition.takes(), definition.table_size(), definition.function_type().map(|one| one.number())];

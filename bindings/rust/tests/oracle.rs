@@ -3,7 +3,7 @@
 
 mod common;
 
-use common::{answer_of, cases, Case, Setting, SETTINGS};
+use common::{answer_of, assert_text_ranges, cases, Case, Setting, SETTINGS};
 use simmerotter::raw::Answer;
 use simmerotter::{Body, Definition, Edition, File, Mode, Refused, Room, Statement};
 
@@ -81,7 +81,7 @@ fn compare_room(room: &mut Room, setting: Setting, case: &Case) {
 fn compare_own(case: &Case, answer: Answer, lists: &common::Lists) {
     assert_eq!(answer, case.answer, "line {}", case.line);
     let [definitions, statements, arguments] = counts(case, answer);
-    assert_eq!(lists.definitions[..12 * definitions], case.wanted.definitions[..12 * definitions]);
+    assert_eq!(lists.definitions[..14 * definitions], case.wanted.definitions[..14 * definitions]);
     assert_eq!(lists.statements[..8 * statements], case.wanted.statements[..8 * statements]);
     assert_eq!(lists.arguments[..7 * arguments], case.wanted.arguments[..7 * arguments]);
 }
@@ -99,10 +99,11 @@ fn compare_file(room: &mut Room, case: &Case, answer: Answer, lists: &common::Li
     match room.read_file(&case.text, &case.tokens) {
         Ok(file) => {
             assert_eq!((0, answer[1]), (answer[0], file.end() as u64), "line {}", case.line);
-            assert_eq!(file.definition_words(), &lists.definitions[..12 * definitions]);
+            assert_eq!(file.definition_words(), &lists.definitions[..14 * definitions]);
             assert_eq!(file.statement_words(), &lists.statements[..8 * statements]);
             assert_eq!(file.argument_words(), &lists.arguments[..7 * arguments]);
             views_of_file(file);
+            assert_text_ranges(file, &case.text);
         }
         Err(refused) => compare_refused(refused, case, answer),
     }

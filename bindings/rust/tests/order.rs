@@ -145,15 +145,15 @@ const fn even_numbers() -> [u32; KEPT_COUNT] {
     numbers
 }
 
-const EXACT: [usize; 4] = [KEPT_COUNT, 3 * 12, 4 * 8, 5 * 7];
+const EXACT: [usize; 4] = [KEPT_COUNT, 3 * 14, 4 * 8, 5 * 7];
 const BODY_START: usize = 26;
 const BODY_EXACT: [usize; 4] = [KEPT_COUNT, 17, 4 * 8, 2 * 7];
 
 #[rustfmt::skip]
-const DEFINITIONS: [u32; 36] = [
-    2, 2, 0, 15, 0, 2, 2, 1, 0, 0, 1, 0,
-    4, 17, 15, 20, 3, 0, 3, 0, 0, 0, 1, 19,
-    6, 22, 20, 36, 3, 0, 3, 0, 0, 4, 0, 0,
+const DEFINITIONS: [u32; 42] = [
+    2, 2, 0, 15, 0, 2, 2, 1, 0, 0, 1, 0, 0, 63,
+    4, 17, 15, 20, 3, 0, 3, 0, 0, 0, 1, 19, 64, 89,
+    6, 22, 20, 36, 3, 0, 3, 0, 0, 4, 0, 0, 90, 141,
 ];
 
 #[rustfmt::skip]

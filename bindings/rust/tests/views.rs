@@ -7,25 +7,23 @@ use simmerotter::{
     token_at, ArgumentForm, Cursor, DefinitionKind, File, FunctionType, Kind, Location, Refusal, Room, StatementKind, Value,
 };
 
-fn source() -> Source {
-    Source::of_lines(&[
-        "#include \"store.huff\"",
-        "#define function settle ( %uint256 calldata order , %address ) nonpayable returns ( %bool done )",
-        "#define event Refunded ( %address indexed buyer , %uint256 amount )",
-        "#define error NotSettled ( %uint256 order )",
-        "#define constant OWED = FREE",
-        "#define constant FEE = 0x0f",
-        "#define macro PAY ( amount memory more ) = takes ( 1 ) returns ( 2 ) { < amount > [ OWED ] op55 }",
-        "#define fn SETTLE ( ) = { 0x04 PAY ( 0x20 , it < that > ) ~refund : op60 0x00 ~failed : @err ( NotSettled \"s\" 0x01 ) }",
-        "#define test TRY ( ) = takes ( 0 ) returns ( 7 ) { refund }",
-        "#define jumptable ROUTES { refund failed }",
-        "#define packed TIGHT { refund failed }",
-        "#define table CODE { abc d }",
-    ])
-}
+const LINES: [&str; 12] = [
+    "#include \"store.huff\"",
+    "#define function settle ( %uint256 calldata order , %address ) nonpayable returns ( %bool done )",
+    "#define event Refunded ( %address indexed buyer , %uint256 amount )",
+    "#define error NotSettled ( %uint256 order )",
+    "#define constant OWED = FREE",
+    "#define constant FEE = 0x0f",
+    "#define macro PAY ( amount memory more ) = takes ( 1 ) returns ( 2 ) { < amount > [ OWED ] op55 }",
+    "#define fn SETTLE ( ) = { 0x04 PAY ( 0x20 , it < that > ) ~refund : op60 0x00 ~failed : @err ( NotSettled \"s\" 0x01 ) }",
+    "#define test TRY ( ) = takes ( 0 ) returns ( 7 ) { refund }",
+    "#define jumptable ROUTES { refund failed }",
+    "#define packed TIGHT { refund failed }",
+    "#define table CODE { abc d }",
+];
 
 fn with_file(check: impl Fn(File<'_>)) {
-    let source = source();
+    let source = Source::of_lines(&LINES);
     let mut room = Room::new();
     check(room.read_file(&source.text, &source.tokens).expect("a file that follows the rules"));
 }
@@ -69,6 +67,19 @@ fn definitions_lie_behind_each_other() {
         assert_eq!(file.token(end).map(|token| token.kind), Some(Kind::Eof));
         assert_eq!(file.token(end + 1), None);
         assert_eq!(file.kept().len(), end + 1);
+    });
+}
+
+#[test]
+fn definitions_have_their_lines_of_the_text() {
+    with_file(|file| {
+        let found: Vec<_> = file.definitions().map(|one| String::from_utf8_lossy(one.text())).collect();
+        // The marks that say a token's kind are no part of the text.
+        let wanted: Vec<_> = LINES.iter().map(|line| line.replace(&['%', '~', '@'][..], "")).collect();
+        assert_eq!(found, wanted);
+        let starts: Vec<_> = file.definitions().map(|one| one.text_range().start).collect();
+        let ends: Vec<_> = file.definitions().map(|one| one.text_range().end + 1).collect();
+        assert_eq!((starts[0], &starts[1..]), (0, &ends[..11]), "a space lies between each two");
     });
 }
 

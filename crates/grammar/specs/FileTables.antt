@@ -1,7 +1,7 @@
 -- What a reader of the tables relies on, for files: each word of each definition record of an accepted call, and of the records it points at, said by the tokens
 -- at its places: their kinds, a Num's number, the length of an entry's text, that the name of an argument with a type is not reserved; and the last two words of a
--- definition by where its first and its last token stand in the text. No reading and no parser
--- stands here. The numbers of a family are those of Tables: `i n` statements, `a m` arguments, `p q` the range.
+-- definition by where its first and its last token stand in the text. No reading and no parser stands here. The numbers of a family are those of Tables: `i n`
+-- statements, `a m` arguments, `p q` the range.
 use Prim.Native.Nat.{ℕ, suc, _+_, _-_, _*_, _/_, _≤_, _<_}
 use mathlib.Core.Path.{_≡_}
 use mathlib.Core.Bool.{Bool, true, false}

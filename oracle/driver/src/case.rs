@@ -141,7 +141,7 @@ impl Lent {
     pub fn settle(&mut self, case: &Case, found: &Found) -> String {
         self.zero_tables();
         let needs = [
-            (32, found.definitions.len(), case.definitions / 12),
+            (32, found.definitions.len(), case.definitions / 14),
             (33, found.statements.len(), case.statements / 8),
             (34, found.arguments.len(), case.arguments / 7),
         ];

@@ -15,9 +15,10 @@
 //! nodes or its error, as Rust shows it; a span's start is the token's place.
 //!
 //! What the nodes don't hold the driver derives: 30, 31, 35, 36, 38, 32 to 34, the kept list, the
-//! ranges that are wider than the nodes' spans, imports' places, the arguments of calls, the forms of
-//! a builtin's arguments, record numbers, the plain length, in either edition, and the numbers of the
-//! type that the Rust's refusal 7 holds. docs/DIFFERENCES.md says so.
+//! ranges that are wider than the nodes' spans, imports' places, the bytes of the text that a
+//! definition's spans stand for, the arguments of calls, the forms of a builtin's arguments, record
+//! numbers, the plain length, in either edition, and the numbers of the type that the Rust's refusal 7
+//! holds. docs/DIFFERENCES.md says so.
 
 mod case;
 mod nodes;
@@ -121,7 +122,7 @@ fn answer(case: &Case, ways: Ways) -> String {
     lent.write_kept(&kept);
     let read = std::panic::catch_unwind(|| match case.edition {
         Some(edition) => nodes::read_body(list, case.start as usize, edition),
-        None => nodes::read_file(list),
+        None => nodes::read_file(list, &tokens::ranges(&case.words)),
     });
     match read {
         Err(_) => "PANIC".to_string(),

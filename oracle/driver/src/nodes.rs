@@ -1,6 +1,6 @@
 //! Runs the Rust and turns its nodes into document 01's records.
 
-use crate::SECOND;
+use crate::{tokens::Range, SECOND};
 use huff_parser::Parser;
 use huff_utils::{
     ast::*,
@@ -15,7 +15,7 @@ const NONE: u32 = 4_294_967_295;
 pub struct Found {
     pub cursor: usize,
     pub length: u32,
-    pub definitions: Vec<[u32; 12]>,
+    pub definitions: Vec<[u32; 14]>,
     pub statements: Vec<[u32; 8]>,
     pub arguments: Vec<[u32; 7]>,
 }
@@ -115,7 +115,7 @@ fn parser_at(mut list: Vec<Token>, start: usize) -> Parser {
 pub fn read_body(list: Vec<Token>, start: usize, edition: u32) -> Result<Found, No> {
     let mut parser = parser_at(list, start);
     let body = parser.parse_body()?;
-    let mut maker = Maker::new(&parser.tokens);
+    let mut maker = Maker::new(&parser.tokens, &[]);
     maker.statements(&body, start + 1, parser.cursor - 1)?;
     let length = plain_length(&body, edition).unwrap_or(NONE);
     Ok(maker.found(parser.cursor, length))
@@ -130,8 +130,8 @@ pub fn raw(list: Vec<Token>, body: bool, start: usize) -> String {
     }
 }
 
-/// Reads a file.
-pub fn read_file(list: Vec<Token>) -> Result<Found, No> {
+/// Reads a file. The ranges are those of the kept tokens, in the text: the Rust's spans are places.
+pub fn read_file(list: Vec<Token>, ranges: &[Range]) -> Result<Found, No> {
     let mut parser = Parser::new(list, None);
     let contract = parser.parse()?;
     if contract.macros.iter().any(|m| m.decorator.is_some()) {
@@ -147,7 +147,7 @@ pub fn read_file(list: Vec<Token>) -> Result<Found, No> {
     all.extend(contract.tables.iter().map(|d| (&d.span, Def::Table(d))));
     all.sort_by_key(|(span, _)| span[0].start);
 
-    let mut maker = Maker::new(&parser.tokens);
+    let mut maker = Maker::new(&parser.tokens, ranges);
     let mut imports = contract.imports.len();
     let mut place = 0;
     for (span, def) in &all {
@@ -174,14 +174,15 @@ enum Def<'a> {
 /// Writes records in reading order.
 struct Maker<'a> {
     tokens: &'a [Token],
-    definitions: Vec<[u32; 12]>,
+    ranges: &'a [Range],
+    definitions: Vec<[u32; 14]>,
     statements: Vec<[u32; 8]>,
     arguments: Vec<[u32; 7]>,
 }
 
 impl<'a> Maker<'a> {
-    fn new(tokens: &'a [Token]) -> Self {
-        Maker { tokens, definitions: vec![], statements: vec![], arguments: vec![] }
+    fn new(tokens: &'a [Token], ranges: &'a [Range]) -> Self {
+        Maker { tokens, ranges, definitions: vec![], statements: vec![], arguments: vec![] }
     }
 
     fn found(self, cursor: usize, length: u32) -> Found {
@@ -197,11 +198,18 @@ impl<'a> Maker<'a> {
             sure(matches!(self.tokens[*place + 1].kind, TokenKind::Str(_)))?;
             let (s, a, p) =
                 (self.statements.len() as u32, self.arguments.len() as u32, *place as u32);
-            self.definitions.push([1, p + 1, p, p + 2, a, 0, a, 0, s, 0, 0, 0]);
+            let [start, end] = self.in_text(*place, *place + 2);
+            self.definitions.push([1, p + 1, p, p + 2, a, 0, a, 0, s, 0, 0, 0, start, end]);
             *place += 2;
             *left -= 1;
         }
         Ok(())
+    }
+
+    /// Where the tokens from a place to another stand in the text, request [7]: from the start of the
+    /// first to the end of the last.
+    fn in_text(&self, first: usize, end: usize) -> Range {
+        [self.ranges[first][0], self.ranges[end - 1][1]]
     }
 
     fn definition(&mut self, def: &Def, first: usize, end: usize) -> Result<(), No> {
@@ -258,6 +266,7 @@ impl<'a> Maker<'a> {
             self.statements(body, first_of(s), end - 1)?;
         }
         let written = self.statements.len() as u32 - first_statement;
+        let [text_start, text_end] = self.in_text(first, end);
         self.definitions.push([
             kind,
             first as u32 + 2,
@@ -271,6 +280,8 @@ impl<'a> Maker<'a> {
             written,
             a,
             b,
+            text_start,
+            text_end,
         ]);
         Ok(())
     }

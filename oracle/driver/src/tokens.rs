@@ -60,6 +60,15 @@ pub fn kept(words: &[u32]) -> Vec<u32> {
     numbered.filter(|(_, t)| is_kept(t)).map(|(n, _)| n as u32).collect()
 }
 
+/// Start and end of a token in the text, in bytes.
+pub type Range = [u32; 2];
+
+/// The ranges of the tokens that are kept.
+pub fn ranges(words: &[u32]) -> Vec<Range> {
+    let range = |n: u32| [words[4 * n as usize + 1], words[4 * n as usize + 2]];
+    kept(words).into_iter().map(range).collect()
+}
+
 /// The tokens as the Rust holds them, all of them: dropping is the Rust's work. None if it can't
 /// hold one. A span is the token's place in the kept list.
 pub fn build(text: &[u8], words: &[u32]) -> Option<Vec<Token>> {

@@ -1,6 +1,6 @@
 //! Arguments and their records.
 
-use super::{numbers_within, place, places, word};
+use super::{numbers_within, place, range, word};
 use crate::reading::Reading;
 use std::fmt;
 use std::iter::FusedIterator;
@@ -147,7 +147,7 @@ impl<'a> Argument<'a> {
 
     /// The places of its tokens, angles too, without the commas around it.
     pub fn places(self) -> Range<usize> {
-        places(self.record, FIRST)
+        range(self.record, FIRST)
     }
 
     /// The seven words of its record.

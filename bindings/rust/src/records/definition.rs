@@ -2,7 +2,7 @@
 
 use super::argument::Arguments;
 use super::statement::Statements;
-use super::{numbers, numbers_within, places, size, word};
+use super::{numbers, numbers_within, range, size, word};
 use crate::reading::Reading;
 use std::fmt;
 use std::iter::FusedIterator;
@@ -16,6 +16,7 @@ const FIRST_OUTPUT: usize = 6;
 const FIRST_STATEMENT: usize = 8;
 const A: usize = 10;
 const B: usize = 11;
+const TEXT_START: usize = 12;
 
 /// What is defined.
 #[derive(Clone, Copy, Debug, PartialEq, Eq, Hash)]
@@ -183,7 +184,20 @@ impl<'a> Definition<'a> {
 
     /// The places of its tokens, from `#define` or `#include` on.
     pub fn places(self) -> Range<usize> {
-        places(self.record, FIRST)
+        range(self.record, FIRST)
+    }
+
+    /// Its bytes in the text, from the start of its first token to the end of its last one. White space and comments behind
+    /// that lie outside, and so does an import's closing quote where the token list leaves it out of the string.
+    ///
+    /// The ranges of a file's definitions lie one behind the other.
+    pub fn text_range(self) -> Range<usize> {
+        range(self.record, TEXT_START)
+    }
+
+    /// Its bytes of the text: its tokens, and the white space, comments and other bytes between them.
+    pub fn text(self) -> &'a [u8] {
+        self.reading.text.get(self.text_range()).unwrap_or_default()
     }
 
     /// The arguments that it declares.
@@ -236,7 +250,7 @@ impl<'a> Definition<'a> {
         self.word_if(self.kind.is_table(), A)
     }
 
-    /// The twelve words of its record.
+    /// The fourteen words of its record.
     pub fn record(self) -> &'a [u32] {
         self.record
     }

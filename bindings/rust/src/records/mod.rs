@@ -34,8 +34,8 @@ fn place(record: &[u32], index: usize) -> Option<usize> {
     }
 }
 
-/// Two words that are a first place and the end behind the last.
-fn places(record: &[u32], first: usize) -> Range<usize> {
+/// Two words that are a first place or byte and the end behind the last.
+fn range(record: &[u32], first: usize) -> Range<usize> {
     size(record, first)..size(record, first.saturating_add(1))
 }
 

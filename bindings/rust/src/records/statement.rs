@@ -1,7 +1,7 @@
 //! Statements and their records.
 
 use super::argument::Arguments;
-use super::{numbers, numbers_within, places, size, word};
+use super::{numbers, numbers_within, range, size, word};
 use crate::reading::Reading;
 use crate::token::TokenAt;
 use std::fmt;
@@ -99,7 +99,7 @@ impl<'a> Statement<'a> {
 
     /// The places of its tokens: brackets and angles too, and everything under a label.
     pub fn places(self) -> Range<usize> {
-        places(self.record, FIRST)
+        range(self.record, FIRST)
     }
 
     /// The statements under a label; none of other statements.

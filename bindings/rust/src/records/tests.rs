@@ -43,7 +43,8 @@ fn walk(file: File<'_>, body: Body<'_>) -> usize {
         views += 1;
         let values = (definition.takes(), definition.returns(), definition.table_size(), definition.function_type());
         let names = (definition.name(), definition.constant_value(), definition.places(), definition.number());
-        assert!(!format!("{:?} {:?} {:?}", definition, values, names).is_empty());
+        let text = (definition.text_range(), definition.text());
+        assert!(!format!("{:?} {:?} {:?} {:?}", definition, values, names, text).is_empty());
         views += definition.arguments().chain(definition.outputs()).map(walk_argument).sum::<usize>();
         views += definition.statements().chain(definition.all_statements()).map(walk_statement).sum::<usize>();
     }
@@ -82,6 +83,28 @@ fn views_over_anything_end_without_panic() {
     }
     println!("{} views", views);
     assert!(views > 100_000, "only {} views", views);
+}
+
+#[test]
+fn a_range_that_is_none_of_the_text_has_no_bytes() {
+    let text = b"some text of 24 bytes...";
+    for (start, end, wanted) in [
+        (0, 24, &text[..]),
+        (5, 9, b"text"),
+        (24, 24, b""),
+        (0, 25, b""),
+        (25, 25, b""),
+        (9, 5, b""),
+        (0, u32::MAX, b""),
+        (u32::MAX, 0, b""),
+        (u32::MAX, u32::MAX, b""),
+    ] {
+        let record = [1, 0, 0, 0, 0, 0, 0, 0, 0, 0, 0, 0, start, end];
+        let tables = Tables { definitions: Table::holding(DEFINITION_WORDS, record.to_vec()), ..Tables::new() };
+        let definition = Definition::at(Reading { text, tokens: &[], tables: &tables }, 0).expect("an import");
+        assert_eq!(definition.text_range(), start as usize..end as usize);
+        assert_eq!(definition.text(), wanted, "{} to {}", start, end);
+    }
 }
 
 #[test]

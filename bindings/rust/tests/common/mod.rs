@@ -3,7 +3,7 @@
 #![allow(dead_code)]
 
 use simmerotter::raw::{self, Answer};
-use simmerotter::{push_token, Edition, Kind, Mode, Options, Refused, Room, TOKEN_WORDS};
+use simmerotter::{push_token, Edition, File, Kind, Mode, Options, Refused, Room, TOKEN_WORDS};
 use std::fs;
 use std::path::Path;
 
@@ -45,7 +45,7 @@ impl Lists {
     /// Lists that are long enough for every list of so many tokens.
     pub fn enough(tokens: &[u32]) -> Lists {
         let count = tokens.len() / TOKEN_WORDS;
-        Lists::filled([count, 12 * (count / 2), 8 * count, 7 * count], FILL)
+        Lists::filled([count, 14 * (count / 2), 8 * count, 7 * count], FILL)
     }
 
     pub fn lengths(&self) -> [usize; 4] {
@@ -95,6 +95,22 @@ impl Case {
             false => lists.read_file(mode, &self.text, &self.tokens),
         };
         (answer, lists)
+    }
+}
+
+/// Each definition's bytes are those of its tokens, found by the kept list, and what stands between them; and the ranges lie one
+/// behind the other inside the text.
+pub fn assert_text_ranges(file: File<'_>, text: &[u8]) {
+    let mut behind = 0;
+    for definition in file.definitions() {
+        let (places, range) = (definition.places(), definition.text_range());
+        let bytes_at = |place: usize| file.token(place).expect("a token").bytes;
+        assert_eq!(range, bytes_at(places.start).start..bytes_at(places.end - 1).end);
+        assert!(behind <= range.start && range.start <= range.end && range.end <= text.len(), "{:?} behind {}", range, behind);
+        assert!(places.clone().all(|place| range.start <= bytes_at(place).start && bytes_at(place).end <= range.end));
+        assert!(range.end <= bytes_at(places.end).start);
+        assert_eq!(definition.text(), &text[range.clone()]);
+        behind = range.end;
     }
 }
 
@@ -264,7 +280,7 @@ impl Source {
 }
 
 /// The token of a word. `%` marks a type, `~` a label, `@` a builtin function, `"` a string, `op` and two hex digits an opcode.
-fn token_of(word: &str) -> (Kind, &str, u32) {
+pub fn token_of(word: &str) -> (Kind, &str, u32) {
     let marked = word.get(1..).unwrap_or("");
     match word.chars().next() {
         Some('%') => return (Kind::PrimitiveType, marked, 0),
