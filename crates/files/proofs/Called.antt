@@ -21,7 +21,6 @@ use Rattle.grammar.specs.Rules.{isMode, rulesOf}
 use Rattle.grammar.specs.Result.{Answer, read, refused}
 use Rattle.grammar.specs.Facts.{All}
 use Rattle.grammar.specs.FileReading.{Definition}
-use Rattle.grammar.specs.FileReader.{fileAt}
 use Rattle.grammar.specs.FileRecords.{definitionRecords, fileStatements, fileArguments, fileArgumentRecords, fileStatementCount}
 use Rattle.grammar.specs.FileFollows.{FollowsFile, RepeatedAt, Reached, FirstWrongFile, CursorAt}
 use Rattle.grammar.specs.Call.{ReadingNumber, acceptance, refusalOf, refusal, refusalAt, fileNumbers, afterDoor, TellsType, recordsOf, filled, heldAfter}

@@ -13,7 +13,7 @@ use lib.Seq.{take-at, length-take-le}
 use Rattle.tokens.specs.Number.{definitionWidth, statementWidth, argumentWidth, labelType, importDefinition, macroDefinition, testDefinition, jumpTableDefinition, codeTableDefinition, errorDefinition}
 use Rattle.tokens.specs.Token.{Token, tokenAt, Positions}
 use Rattle.tokens.specs.Kind.{Takes, Returns, Assign, OpenParen, CloseParen}
-use Rattle.grammar.specs.Reading.{Argument, Entry, Reading, NONE, arguments}
+use Rattle.grammar.specs.Reading.{Argument, Entry, Reading, NONE}
 use Rattle.grammar.specs.Rules.{Rules}
 use Rattle.grammar.specs.Grammar.{Many, none, more, Separated, Closed, closed, NameArgument, Location, Body}
 use Rattle.grammar.specs.Records.{argumentRecord, argumentRecords, argumentCount, allArguments}

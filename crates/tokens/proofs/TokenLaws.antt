@@ -1,12 +1,12 @@
 -- What the accessors by place say of the view, which is all that the layers above look at. Assumes nothing.
 use Prim.Native.Nat.{ℕ, zero, suc, _+_, _*_, _≤_, _<_}
-use mathlib.Core.Path.{_≡_, refl, sym, ap, _∙_}
+use mathlib.Core.Path.{_≡_, refl}
 use mathlib.Core.List.{List, [], _∷_, map}
 use mathlib.Core.Logic.{⊎-elim}
 use native.Mathlib.Nat.{add-zero, le-of-suc-le-suc, not-suc-le-zero}
 use borrow.Author.Tests.{lt-ltb, le-ltb}
-use lib.ListN.{length, getD, take, drop, length-map, List·getD-eq-default}
-use Rattle.tokens.specs.Token.{Token, eofToken, part, tokenOf, view, tokenAt}
+use lib.ListN.{length, getD, length-map, List·getD-eq-default}
+use Rattle.tokens.specs.Token.{eofToken, tokenOf, view, tokenAt}
 use Rattle.tokens.specs.Place.{fieldAt, kindAt, extraAt, textAt}
 use Rattle.tokens.proofs.Laws.{lt-or-le}
 
