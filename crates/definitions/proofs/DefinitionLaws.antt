@@ -53,7 +53,7 @@ refused-same h f = record { why = h .why; place = h .place; is = f (h .why) (h .
 -- a definition without statements
 definition-is : {i a kind ins outs x y : ℕ} (d : Definition) → Bodiless (d .form) ins outs x y → kindNumber (d .form) ≡ kind
     → _≡_ {A = code.Definition} (record { kind = kind; name = d .name; first = d .first; end = d .end; argument = a; arguments = ins; output = a + ins; outputs = outs; statement = i; statements = 0; a = x; b = y }) (codeDefinition i a d)
-definition-is d b k = rw (← k, ← b .inputs, ← b .outputs, b .none, b .last)
+definition-is d b k = rw (← k, ← b .inputs, ← b .outputs, b .none, b .words)
 
 -- its arguments are its inputs and outputs
 arguments-are : {ins outs x y : ℕ} (f : Form) → Bodiless f ins outs x y → ins + outs ≡ length (formArguments f)
@@ -182,11 +182,11 @@ unlisted n p size (bad y w) l h = record { why = y; place = w; is = refl; number
 
 event-says : (args : List Argument) {n : ℕ} → length args ≡ n → Bodiless (anEvent args) n 0 0 0
 unfolding formCount formStatements
-event-says args e = record { none = refl; statements = λ i m. refl; noMacro = refl; inputs = e; outputs = refl; inner = refl; last = refl }
+event-says args e = record { none = refl; statements = λ i m. refl; noMacro = refl; inputs = e; outputs = refl; inner = refl; words = refl }
 
 error-says : (args : List Argument) {n : ℕ} → length args ≡ n → Bodiless (anError args) n 0 0 0
 unfolding formCount formStatements
-error-says args e = record { none = refl; statements = λ i m. refl; noMacro = refl; inputs = e; outputs = refl; inner = refl; last = refl }
+error-says args e = record { none = refl; statements = λ i m. refl; noMacro = refl; inputs = e; outputs = refl; inner = refl; words = refl }
 
 -- what a form that is a list says
 record ListSaid (f : Form) (number : ℕ) (args : List Argument) : Type 0 where
@@ -306,7 +306,7 @@ module _ (all : List Token) (p : ℕ) where
 function-says : (inputs outputs : List Argument) (type m n : ℕ) → length inputs ≡ m → length outputs ≡ n → Bodiless (aFunction inputs type outputs) m n type 0
 unfolding formCount formStatements
 function-says inputs outputs type m n e f =
-    record { none = refl; statements = λ i a. refl; noMacro = refl; inputs = e; outputs = f; inner = refl; last = refl }
+    record { none = refl; statements = λ i a. refl; noMacro = refl; inputs = e; outputs = f; inner = refl; words = refl }
 
 module _ (all : List Token) (p size : ℕ) where
   -- the inputs, and behind them the rest
@@ -390,7 +390,7 @@ module _ (all : List Token) (p : ℕ) where
   unfolding formCount formStatements formArguments putAll
   import-parsed e h inside written =
       bodiless-parsed (imported e h)
-      (record { none = refl; statements = λ i m. refl; noMacro = refl; inputs = refl; outputs = refl; inner = refl; last = refl })
+      (record { none = refl; statements = λ i m. refl; noMacro = refl; inputs = refl; outputs = refl; inner = refl; words = refl })
       refl refl written refl (omega arith) inside (omega arith)
 
 -- ---- constants
@@ -462,7 +462,7 @@ constant-fits g few f i a =
 
 constant-says : (v : ConstVal) {x y : ℕ} → valueWords (valueOf v) ≡ x ∷ y ∷ [] → Bodiless (aDefinedConstant (valueOf v)) 0 0 x y
 unfolding formCount formStatements
-constant-says v e = record { none = refl; statements = λ i m. refl; noMacro = refl; inputs = refl; outputs = refl; inner = refl; last = e }
+constant-says v e = record { none = refl; statements = λ i m. refl; noMacro = refl; inputs = refl; outputs = refl; inner = refl; words = e }
 
 pub constant-parsed : {all : List Token} {first p i a size : ℕ} {read : Res Definition} {st ar : List ℕ} {r : DefRead} (d : ConstantDefinition)
     → ConstantGot all first p size read d → r ≡ defs.Done (constantOf i a d) 0

@@ -50,7 +50,7 @@ pub record Bodiless (f : Form) (ins outs a b : ℕ) : Type 0 where
   pub inputs : length (inputsOf f) ≡ ins
   pub outputs : length (outputsOf f) ≡ outs
   pub inner : innerArguments f ≡ []
-  pub last : formWords f ≡ a ∷ b ∷ []
+  pub words : formWords f ≡ a ∷ b ∷ []
 
 -- s was read from p on, and its arguments' records were written from number 0 on
 pub record Signed (kind p size : ℕ) (read : Res Form) (table : List ℕ) (s : Signature) (table′ : List ℕ) : Type 0 where

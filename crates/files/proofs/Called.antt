@@ -11,9 +11,9 @@ use lib.Dec.{ltb, eqb}
 use Rattle.tokens.specs.Number as number
 use Rattle.tokens.specs.Number.{definitionWidth, statementWidth, argumentWidth, labelType, macroDefinition, testDefinition, lenientMode, strictMode}
 use Rattle.tokens.specs.Kind.{Eof, Pound}
-use Rattle.tokens.specs.Token.{Token, tokenAt, Positions, positions}
+use Rattle.tokens.specs.Token.{Token, tokenAt, Positions}
 use Rattle.tokens.specs.Name.{typeTold}
-use Rattle.tokens.specs.Kept.{keptOf, keptTokens}
+use Rattle.tokens.specs.Kept.{keptOf, keptTokens, keptPositions}
 use Rattle.tokens.specs.WellFormed.{WellFormed}
 use Rattle.tokens.specs.Door.{door}
 use Rattle.tokens.proofs.DoorLaws.{kept-not-empty, Means, means-30, means-35, means-31, means-through, door-means, let-through}
@@ -34,7 +34,7 @@ use Rattle.grammar.proofs.FileDemand.{file-exactly, file-cursor, file-repeated,
 use Rattle.grammar.proofs.FileRecorded.{file-as-many, file-as-wide}
 use Rattle.grammar.proofs.Tabled.{stored-filled, walk-labels-all}
 use Rattle.grammar.proofs.FileTabled.{file-tabled, file-walked}
-use Rattle.grammar.proofs.FileCases.{readIn, fileOutcomes, file-rows-hold, strict-files-hold}
+use Rattle.grammar.proofs.FileCases.{rowRead, fileOutcomes, file-rows-hold, strict-files-hold}
 use Rattle.statements.proofs.Called.{Through, number-is}
 use Rattle.files.specs.declared.entry.File.{File}
 use Rattle.files.specs.Call.{values, numberOf, afterReading, fileReading, fileAnswered, FileCall}
@@ -126,7 +126,7 @@ module _ {mode : ℕ} {text words kept definitions statements arguments : List �
   tokens = keptTokens text words
 
   abbrev pos : Positions
-  pos = positions words (keptOf words)
+  pos = keptPositions words
 
   -- every call's numbers say so
   pub file-call-says : Says mode text words kept definitions statements arguments (values r)
@@ -308,7 +308,7 @@ answers-reading {text = text} {words} {kept} known formed enough call = call .an
 -- and tables with room for the reading's records: it answers the reading
 pub with-room : {mode : ℕ} {text words kept definitions statements arguments : List ℕ} {r : File} {kept′ definitions′ statements′ arguments′ : List ℕ}
     → isMode mode ≡ true → WellFormed text words → length (keptOf words) ≤ length kept
-    → (o : FileOutcome) → fileOutcome (keptTokens text words) (positions words (keptOf words)) (fileReading mode text words) ≡ o
+    → (o : FileOutcome) → fileOutcome (keptTokens text words) (keptPositions words) (fileReading mode text words) ≡ o
     → length (o .definitions) ≤ length definitions / definitionWidth
     → length (o .statements) ≤ length statements / statementWidth
     → length (o .arguments) ≤ length arguments / argumentWidth
@@ -319,12 +319,12 @@ with-room {mode} {text} {words} {kept} {definitions} {statements} {arguments} {r
     rw is at (go (fileReading mode text words) refl (rw (← is) at room) (rw (← is) at room′) (rw (← is) at room″))
   where
     go : (x : Answer (List Definition)) → fileReading mode text words ≡ x
-        → length (recordsOf (definitionRecords (positions words (keptOf words)) 0 0) x) ≤ length definitions / definitionWidth
+        → length (recordsOf (definitionRecords (keptPositions words) 0 0) x) ≤ length definitions / definitionWidth
         → length (recordsOf (fileStatements 0 0) x) ≤ length statements / statementWidth
         → length (recordsOf fileArgumentRecords x) ≤ length arguments / argumentWidth
-        → Told definitions statements arguments r definitions′ statements′ arguments′ (fileOutcome (keptTokens text words) (positions words (keptOf words)) x)
+        → Told definitions statements arguments r definitions′ statements′ arguments′ (fileOutcome (keptTokens text words) (keptPositions words) x)
     go (read ds n) e hd hs ha =
-        let many = file-as-many (positions words (keptOf words)) 0 0 ds in
+        let many = file-as-many (keptPositions words) 0 0 ds in
         let told : values r ≡ fileNumbers (keptTokens text words) (read ds n) = answers-reading known formed enough call ∙ rw e (rw (le-ltb _ _ (rw (many .0) at hd), le-ltb _ _ (rw (many .1) at hs), le-ltb _ _ (rw (many .2) at ha))) in
         record { answer = told; definitionsHold = call .definitionsHold ∙ rw (e, told); statementsHold = call .statementsHold ∙ rw (e, told); argumentsHold = call .argumentsHold ∙ rw (e, told) }
     go (refused c q) e hd hs ha =
@@ -344,7 +344,7 @@ tooFew need = record { answers = refusal number.DefinitionsTooSmall need; defini
 -- a table of definitions without room for those of the reading: 32
 pub too-few-definitions : {mode : ℕ} {text words kept definitions statements arguments : List ℕ} {r : File} {kept′ definitions′ statements′ arguments′ : List ℕ}
     → isMode mode ≡ true → WellFormed text words → length (keptOf words) ≤ length kept
-    → (o : FileOutcome) → fileOutcome (keptTokens text words) (positions words (keptOf words)) (fileReading mode text words) ≡ o
+    → (o : FileOutcome) → fileOutcome (keptTokens text words) (keptPositions words) (fileReading mode text words) ≡ o
     → length definitions / definitionWidth < length (o .definitions)
     → FileCall mode text words kept definitions statements arguments r kept′ definitions′ statements′ arguments′
     → Told definitions statements arguments r definitions′ statements′ arguments′ (tooFew (length (o .definitions)))
@@ -355,10 +355,10 @@ too-few-definitions {mode} {text} {words} {definitions = definitions} {statement
     record { answer = told; definitionsHold = call .definitionsHold ∙ rw told; statementsHold = call .statementsHold ∙ rw told; argumentsHold = call .argumentsHold ∙ rw told }
   where
     go : (x : Answer (List Definition)) → fileReading mode text words ≡ x
-        → length definitions / definitionWidth < length (recordsOf (definitionRecords (positions words (keptOf words)) 0 0) x)
-        → values r ≡ refusal number.DefinitionsTooSmall (length (recordsOf (definitionRecords (positions words (keptOf words)) 0 0) x))
+        → length definitions / definitionWidth < length (recordsOf (definitionRecords (keptPositions words) 0 0) x)
+        → values r ≡ refusal number.DefinitionsTooSmall (length (recordsOf (definitionRecords (keptPositions words) 0 0) x))
     go (read ds n) e h =
-        let many = file-as-many (positions words (keptOf words)) 0 0 ds .0 in
+        let many = file-as-many (keptPositions words) 0 0 ds .0 in
         let small : ltb (length definitions / definitionWidth) (length ds) ≡ true = lt-ltb _ _ (rw many at h) in
         let said : afterReading (keptTokens text words) (read ds n) (length definitions) (length statements) (length arguments) ≡ refusal number.DefinitionsTooSmall (length ds) = rw small in
         answers-reading known formed enough call
@@ -381,19 +381,16 @@ Answered mode texts row =
     → length (row .outcome .statements) ≤ length statements / statementWidth
     → length (row .outcome .arguments) ≤ length arguments / argumentWidth
     → FileCall mode text words kept definitions statements arguments r kept′ definitions′ statements′ arguments′
-    → Told definitions statements arguments r definitions′ statements′ arguments′ (outcomeAt row (positions words (keptOf words)))
+    → Told definitions statements arguments r definitions′ statements′ arguments′ (outcomeAt row (keptPositions words))
 
 -- where the reader gives a list of rows their outcomes, a call does
 rows-answered : (mode : ℕ) (texts : ℕ → List ℕ) (list : List FileRow) → isMode mode ≡ true → fileOutcomes mode texts list ≡ map outcomeAt list → All (Answered mode texts) list
 unfolding fileOutcomes
-rows-answered mode texts list known hold = all-map (λ row. answer row ≡ outcomeAt row) (Answered mode texts) list one (all-mapped answer outcomeAt list hold)
+rows-answered mode texts list known hold = all-map (λ row. rowRead mode texts row ≡ outcomeAt row) (Answered mode texts) list one (all-mapped (rowRead mode texts) outcomeAt list hold)
   where
-    answer : FileRow → Positions → FileOutcome
-    answer row = readIn mode (tokensOf texts 0 (ended (row .input)))
-
-    one : (row : FileRow) → answer row ≡ outcomeAt row → Answered mode texts row
+    one : (row : FileRow) → rowRead mode texts row ≡ outcomeAt row → Answered mode texts row
     one row e text words kept definitions statements arguments r kept′ definitions′ statements′ arguments′ formed same enough room room′ room″ call =
-        let pos = positions words (keptOf words) in
+        let pos = keptPositions words in
         with-room known formed enough (outcomeAt row pos) (rw same (ap (λ (f : Positions → FileOutcome). f pos) e)) (rw (length-map (row .outcome .definitions) (placed pos)) room) room′ room″ call
 
 pub file-call-rows : (texts : ℕ → List ℕ) → All (Answered lenientMode texts) fileRows

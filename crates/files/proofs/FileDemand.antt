@@ -7,9 +7,8 @@ use mathlib.Core.Logic.{_↔_}
 use mathlib.Core.Bool.{true}
 use mathlib.Core.List.{List}
 use lib.ListN.{length, getD}
-use Rattle.tokens.specs.Token.{positions}
 use Rattle.tokens.specs.Number.{definitionWidth, statementWidth, argumentWidth}
-use Rattle.tokens.specs.Kept.{keptOf, keptTokens}
+use Rattle.tokens.specs.Kept.{keptOf, keptTokens, keptPositions}
 use Rattle.tokens.specs.WellFormed.{WellFormed}
 use Rattle.tokens.proofs.TokenLaws.{view-length}
 use Rattle.grammar.specs.Rules.{isMode, rulesOf}
@@ -39,7 +38,7 @@ module _ {mode : ℕ} {text words kept definitions statements arguments : List �
       → (n : ℕ) (ds : List Definition) → IsFile mode text words n ds → Room definitions statements arguments ds
       → TheOne n ds
   the-one known formed enough n ds f room =
-      let pos = positions words (keptOf words) in
+      let pos = keptPositions words in
       let e : fileReading mode text words ≡ read ds n = file-exactly (rulesOf mode) true (keptTokens text words) n ds .1 f in
       let many = file-as-many pos 0 0 ds in
       let told = with-room known formed enough (fileOutcome (keptTokens text words) pos (read ds n)) (ap (fileOutcome (keptTokens text words) pos) e) (rw (many .0) (room .forDefinitions)) (rw (many .1) (room .forStatements)) (rw (many .2) (room .forArguments)) call in

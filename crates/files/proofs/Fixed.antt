@@ -5,9 +5,9 @@ use mathlib.Core.Path.{_≡_, refl, sym, ap, _∙_}
 use mathlib.Core.List.{List, [], _∷_}
 use borrow.Author.Tests.{ne-eqb}
 use lib.ListN.{getD}
-use Rattle.tokens.specs.Token.{Positions, positions}
+use Rattle.tokens.specs.Token.{Positions}
 use Rattle.tokens.specs.Number as number
-use Rattle.tokens.specs.Kept.{keptOf}
+use Rattle.tokens.specs.Kept.{keptPositions}
 use Rattle.grammar.specs.Result.{Res, got, choose}
 use Rattle.grammar.specs.Call.{recordsOf, heldAfter}
 use Rattle.grammar.specs.FileReading.{Definition}
@@ -65,7 +65,7 @@ one-call {mode} {text} {words} {de = de} {st = st} {ar = ar} {r = r} {r′ = r�
     let same = one-file-answer r r′ (m .own) (n .own) (m .answer ∙ sym (n .answer)) in (
       same,
       m .list ∙ sym (n .list),
-      m .definitionsHold ∙ ap (λ (x : File). heldAfter (numberOf x) (recordsOf (definitionRecords (positions words (keptOf words)) 0 0) (fileReading mode text words)) de) same ∙ sym (n .definitionsHold),
+      m .definitionsHold ∙ ap (λ (x : File). heldAfter (numberOf x) (recordsOf (definitionRecords (keptPositions words) 0 0) (fileReading mode text words)) de) same ∙ sym (n .definitionsHold),
       m .statementsHold ∙ ap (λ (x : File). heldAfter (numberOf x) (recordsOf (fileStatements 0 0) (fileReading mode text words)) st) same ∙ sym (n .statementsHold),
       m .argumentsHold ∙ ap (λ (x : File). heldAfter (numberOf x) (recordsOf fileArgumentRecords (fileReading mode text words)) ar) same ∙ sym (n .argumentsHold),
     )

@@ -7,8 +7,8 @@ use mathlib.Core.List.{List, [], _∷_, map, flatten}
 use lib.ListN.{length, replicate}
 use Rattle.tokens.specs.Number as number
 use Rattle.tokens.specs.Number.{definitionWidth, statementWidth, argumentWidth, lenientMode, strictMode}
-use Rattle.tokens.specs.Token.{Token, tokenOf, positions}
-use Rattle.tokens.specs.Kept.{keptOf, keptTokens}
+use Rattle.tokens.specs.Token.{Token, tokenOf}
+use Rattle.tokens.specs.Kept.{keptOf, keptTokens, keptPositions}
 use Rattle.tokens.specs.WellFormed.{WellFormed}
 use Rattle.tokens.specs.Door.{door}
 use Rattle.tokens.proofs.TokenLaws.{view-inside, view-length}
@@ -21,14 +21,14 @@ use Rattle.grammar.specs.TextRanges.{InOrder, LaidOut}
 use Rattle.grammar.specs.FileCases.{FileOutcome, TextRow, textOf, wordsFrom, oneConstant, textRows}
 use Rattle.grammar.proofs.Lists.{all-map, all-mapped}
 use Rattle.grammar.proofs.TextRanges.{InText, text-ranges}
-use Rattle.grammar.proofs.FileCases.{readIn, textOutcomes, text-rows-hold}
+use Rattle.grammar.proofs.FileCases.{readIn, textRead, textOutcomes, text-rows-hold}
 use Rattle.statements.proofs.Called.{number-is}
 use Rattle.files.specs.declared.entry.File.{File}
 use Rattle.files.specs.Call.{values, FileCall}
 use Rattle.files.proofs.Called.{accepted, file-call-tables, Told, with-room, tooFew, too-few-definitions}
 
 -- how the kept tokens of a well-formed list stand in the text
-in-text : (text words : List ℕ) → WellFormed text words → InText text (keptTokens text words) (positions words (keptOf words))
+in-text : (text words : List ℕ) → WellFormed text words → InText text (keptTokens text words) (keptPositions words)
 unfolding tokenOf
 in-text text words formed =
     let many = view-length text words (keptOf words) in
@@ -44,10 +44,10 @@ module _ {mode : ℕ} {text words kept definitions statements arguments : List �
   -- of an accepted file the byte ranges of the k definitions lie one behind the other inside the text, and the bytes of each are its tokens' texts and what stands
   -- between them
   pub file-call-text-ranges : (q k n m : ℕ) → values r ≡ acceptance q k n m
-      → InOrder definitions′ 0 k 0 (length text) × ((d : ℕ) → d < k → LaidOut text (keptTokens text words) (positions words (keptOf words)) definitions′ d)
+      → InOrder definitions′ 0 k 0 (length text) × ((d : ℕ) → d < k → LaidOut text (keptTokens text words) (keptPositions words) definitions′ d)
   file-call-text-ranges q k n m is =
       let all = file-call-tables call q k n m is in
-      text-ranges text (keptTokens text words) (positions words (keptOf words)) (in-text text words (accepted call (number-is is) .through .list .formed)) definitions′ statements′ arguments′ k n m q (all .0) (all .1)
+      text-ranges text (keptTokens text words) (keptPositions words) (in-text text words (accepted call (number-is is) .through .list .formed)) definitions′ statements′ arguments′ k n m q (all .0) (all .1)
 
 -- ---- the rows
 
@@ -81,15 +81,7 @@ TextAnswered mode row =
     → Told definitions statements arguments r definitions′ statements′ arguments′ (tooFew (length (row .outcome .definitions)))))
 
 module _ (mode : ℕ) (known : isMode mode ≡ true) where
-  -- what the door and the reader say of a row
-  abbrev told : TextRow → ℕ × FileOutcome
-  told row =
-      let words = wordsFrom 0 (row .cut) in (
-        door (textOf (row .cut)) words 0 (length (keptOf words)) .0,
-        readIn mode (keptTokens (textOf (row .cut)) words) (positions words (keptOf words)),
-      )
-
-  row-answered : (row : TextRow) → told row ≡ (0, row .outcome) → TextAnswered mode row
+  row-answered : (row : TextRow) → textRead mode row ≡ (0, row .outcome) → TextAnswered mode row
   unfolding readIn
   row-answered row e kept definitions statements arguments r kept′ definitions′ statements′ arguments′ enough call =
       let words = wordsFrom 0 (row .cut) in
@@ -101,7 +93,7 @@ module _ (mode : ℕ) (known : isMode mode ≡ true) where
 
   rows-answered : (list : List TextRow) → textOutcomes mode list ≡ map (λ row. (0, row .outcome)) list → All (TextAnswered mode) list
   unfolding textOutcomes
-  rows-answered list hold = all-map (λ row. told row ≡ (0, row .outcome)) (TextAnswered mode) list row-answered (all-mapped told (λ row. (0, row .outcome)) list hold)
+  rows-answered list hold = all-map (λ row. textRead mode row ≡ (0, row .outcome)) (TextAnswered mode) list row-answered (all-mapped (textRead mode) (λ row. (0, row .outcome)) list hold)
 
 -- the rows of request [7], in either mode
 pub file-call-text-rows : All (TextAnswered lenientMode) textRows × All (TextAnswered strictMode) textRows

@@ -7,8 +7,8 @@ use lib.ListN.{length, getD}
 use lib.Dec.{ltb}
 use Rattle.tokens.specs.Number as number
 use Rattle.tokens.specs.Number.{definitionWidth, statementWidth, argumentWidth}
-use Rattle.tokens.specs.Token.{Token, positions}
-use Rattle.tokens.specs.Kept.{keptOf, keptTokens}
+use Rattle.tokens.specs.Token.{Token}
+use Rattle.tokens.specs.Kept.{keptTokens, keptPositions}
 use Rattle.tokens.specs.Door.{keptAfter}
 use Rattle.grammar.specs.Result.{Answer, read, refused}
 use Rattle.grammar.specs.Rules.{rulesOf}
@@ -69,6 +69,6 @@ pub record FileCall (mode : ℕ) (text words kept definitions statements argumen
   pub answer : values r ≡ fileAnswered mode text words (length kept) (length definitions) (length statements) (length arguments)
   pub own : Own r
   pub list : kept′ ≡ keptAfter (fileEntrance mode text words (length kept) .0) words kept
-  pub definitionsHold : definitions′ ≡ heldAfter (numberOf r) (recordsOf (definitionRecords (positions words (keptOf words)) 0 0) (fileReading mode text words)) definitions
+  pub definitionsHold : definitions′ ≡ heldAfter (numberOf r) (recordsOf (definitionRecords (keptPositions words) 0 0) (fileReading mode text words)) definitions
   pub statementsHold : statements′ ≡ heldAfter (numberOf r) (recordsOf (fileStatements 0 0) (fileReading mode text words)) statements
   pub argumentsHold : arguments′ ≡ heldAfter (numberOf r) (recordsOf fileArgumentRecords (fileReading mode text words)) arguments

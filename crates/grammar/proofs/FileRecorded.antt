@@ -55,20 +55,20 @@ value-wide : (v : Value) → length (formWords (aDefinedConstant v)) ≡ 2
 value-wide (literalAt p) = refl
 value-wide (pointerAt p) = refl
 
-last-wide : (f : Form) → length (formWords f) ≡ 2
-last-wide anImport = refl
-last-wide (aFunction ins ty outs) = refl
-last-wide (anEvent args) = refl
-last-wide (aDefinedConstant v) = value-wide v
-last-wide (anError args) = refl
-last-wide (aMacro sort args tk rt r) = refl
-last-wide (aTable sort es) = refl
+words-wide : (f : Form) → length (formWords f) ≡ 2
+words-wide anImport = refl
+words-wide (aFunction ins ty outs) = refl
+words-wide (anEvent args) = refl
+words-wide (aDefinedConstant v) = value-wide v
+words-wide (anError args) = refl
+words-wide (aMacro sort args tk rt r) = refl
+words-wide (aTable sort es) = refl
 
 definitions-wide : (pos : Positions) (i a : ℕ) (ds : List Definition) → All (HasWords definitionWidth) (definitionRecords pos i a ds)
 unfolding definitionRecords definitionRecord
 definitions-wide pos i a [] = tt
 definitions-wide pos i a (d ∷ ds) = (
-  omega (arith, last-wide (d .form), length-append (formWords (d .form)) (textRange pos d)),
+  omega (arith, words-wide (d .form), length-append (formWords (d .form)) (textRange pos d)),
   definitions-wide pos (i + formCount (d .form)) (a + length (formArguments (d .form))) ds,
 )
 

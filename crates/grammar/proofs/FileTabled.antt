@@ -328,7 +328,7 @@ definition-rises kept statements table i n a m p e w (tableDefinedAt {q = q} {r 
       flat-rises statements i n (suc s) d (entries-flat kept statements type a i n (suc s) d digits (table-numbers kind n digits number type size k .2) b),
     )
 
--- nor does a file
+-- a file doesn't go backwards either
 pub file-rises : (kept : List Token) (pos : Positions) (definitions statements table : List ℕ) (d k i n a m p q : ℕ) → FileTable kept pos definitions statements table d k i n a m p q → p ≤ q
 file-rises kept pos definitions statements table d k i n a m p q noDefinitions = omega arith
 file-rises kept pos definitions statements table d k i n a m p q (defined {k = o} {n = c} {l = t} {m = l} {h = g} {e = e} w x r rest) =

@@ -8,7 +8,7 @@ use mathlib.Core.List.{List, _++_}
 use lib.ListN.{length, take, drop}
 use lib.Seq.{drop-drop, take-add}
 use Rattle.tokens.specs.Token.{Token, part, tokenAt, Positions}
-use Rattle.grammar.specs.FileTables.{FileTable, noDefinitions, defined}
+use Rattle.grammar.specs.FileTables.{Words, DefinitionAt, FileTable, noDefinitions, defined}
 use Rattle.grammar.specs.TextRanges.{InOrder, laidOut, LaidOut}
 use Rattle.grammar.proofs.FileTabled.{definition-rises, file-rises}
 
@@ -48,26 +48,29 @@ module _ (text : List ℕ) (kept : List Token) (pos : Positions) (lies : InText 
       ∙ ap (λ (l : List ℕ). part text (pos .end p) (pos .start (suc p)) ++ l) (laid-out (suc p) n (omega arith))))
 
   module _ (definitions statements table : List ℕ) where
+    -- a definition has a token, and its last one stands before the end of the file
+    own : (d k i n l a m h p e q : ℕ) (w : Words) → DefinitionAt kept statements table i n a m p e w → FileTable kept pos definitions statements table d k (i + n) l (a + m) h e q
+        → (p < e) × (e ≤ q) × (p + (e - p - 1) ≡ e - 1)
+    own d k i n l a m h p e q w x rest =
+        let up = definition-rises kept statements table i n a m p e w x in
+        (up, file-rises kept pos definitions statements table d k (i + n) l (a + m) h e q rest, omega arith)
+
     in-order : (d k i n a m p q b : ℕ) → FileTable kept pos definitions statements table d k i n a m p q → q < length kept → b ≤ pos .start p → InOrder definitions d k b (length text)
     in-order d k i n a m p q b noDefinitions h low = omega (arith, low, lies .forwards p h, lies .within p h)
     in-order d k i n a m p q b (defined {k = o} {n = c} {l = t} {m = l} {h = g} {e = e} w x r rest) h low =
-        let up : p < e = definition-rises kept statements table i c a l p e w x in
-        let far : e ≤ q = file-rises kept pos definitions statements table (suc d) o (i + c) t (a + l) g e q rest in
-        let last : p + (e - p - 1) ≡ e - 1 = omega arith in
-        let behind : suc (e - 1) ≡ e = omega arith in
+        let fits = own (suc d) o i c t a l g p e q w x rest in
+        let behind : suc (e - 1) ≡ e = omega (arith, fits .0) in
         rw r (
           low,
-          (rw last at (spans p (e - p - 1) (omega arith))),
-          in-order (suc d) o (i + c) t (a + l) g e q (pos .end (e - 1)) rest h (rw behind at (lies .onwards (e - 1) (omega arith))),
+          (rw (fits .2) at (spans p (e - p - 1) (omega (arith, fits .0, fits .1)))),
+          in-order (suc d) o (i + c) t (a + l) g e q (pos .end (e - 1)) rest h (rw behind at (lies .onwards (e - 1) (omega (arith, fits .0, fits .1)))),
         )
 
     each : (d k i n a m p q : ℕ) → FileTable kept pos definitions statements table d k i n a m p q → q < length kept → (j : ℕ) → j < k → LaidOut text kept pos definitions (d + j)
     each d k i n a m p q noDefinitions h j below = absurd (omega arith)
     each d k i n a m p q (defined {k = o} {n = c} {l = t} {m = l} {h = g} {e = e} w x r rest) h zero below =
-        let up : p < e = definition-rises kept statements table i c a l p e w x in
-        let far : e ≤ q = file-rises kept pos definitions statements table (suc d) o (i + c) t (a + l) g e q rest in
-        let last : p + (e - p - 1) ≡ e - 1 = omega arith in
-        rw (add-zero d) (record { some = rw r up; starts = rw r; ends = rw r; bytes = rw r (rw last at (laid-out p (e - p - 1) (omega arith))) })
+        let fits = own (suc d) o i c t a l g p e q w x rest in
+        rw (add-zero d) (record { some = rw r (fits .0); starts = rw r; ends = rw r; bytes = rw r (rw (fits .2) at (laid-out p (e - p - 1) (omega (arith, fits .0, fits .1)))) })
     each d k i n a m p q (defined {k = o} {n = c} {l = t} {m = l} {h = g} {e = e} w x r rest) h (suc j) below =
         rw (add-suc d j, ← suc-add d j) (each (suc d) o (i + c) t (a + l) g e q rest h j (omega arith))
 

@@ -1,22 +1,23 @@
 -- A well-formed list's kept tokens lie one behind the other in the text, and there are no more of them than tokens. Assumes nothing.
-use Prim.Native.Nat.{ℕ, zero, suc, _+_, _-_, _*_, _%_, _≤_, _<_}
+use Prim.Native.Nat.{ℕ, zero, suc, _+_, _-_, _%_, _≤_, _<_}
 use mathlib.Core.Path.{_≡_, sym, ap, _∙_}
 use mathlib.Core.Bool.{true, _&&_}
 use mathlib.Core.List.{List, _++_}
 use mathlib.Core.Logic.{⊎-elim}
 use native.Mathlib.Omega.{arith}
 use native.Mathlib.Nat.{eq-or-lt-of-le}
-use borrow.Author.Tests.{leb-true, lt-ltb}
+use borrow.Author.Tests.{leb-true}
 use lib.Dec.{leb, ltb, eqb}
 use lib.ListN.{length, getD, take, drop, length-append}
 use lib.Seq.{sets-eq, take-at}
 use Rattle.tokens.specs.Kind.{kinds}
-use Rattle.tokens.specs.Token.{tokenCount, kindOf, startOf, endOf, extraOf, Positions, positions}
-use Rattle.tokens.specs.Place.{fieldAt, Lined, FromDoor, Place}
+use Rattle.tokens.specs.Token.{tokenCount, kindOf, startOf, endOf, extraOf, Positions}
+use Rattle.tokens.specs.Place.{Lined, FromDoor, Place}
 use Rattle.tokens.specs.WellFormed.{wholeGood, prevEnd, rangeGood, eofGood, contentsGood, goodAfter, good, WellFormed}
-use Rattle.tokens.specs.Kept.{keptOf}
+use Rattle.tokens.specs.Kept.{keptOf, keptPositions}
 use Rattle.tokens.proofs.Laws.{and-left, and-right}
 use Rattle.tokens.proofs.KeptLaws.{kept-rising, kept-numbered}
+use Rattle.tokens.proofs.TokenLaws.{field-inside}
 use Rattle.tokens.specs.Door.{values, door, keptAfter, Prepared}
 use Rattle.tokens.specs.declared.door.Door.{Door}
 use Rattle.tokens.specs.declared.door.Door.the-variants.{Ready}
@@ -82,34 +83,29 @@ module _ (text words : List ℕ) (formed : WellFormed text words) where
       let d = leb (tokenCount words) 65536 in
       leb-true _ _ (and-left a b (and-left (a && b) c (and-left (a && b && c) d (formed .whole))))
 
--- ---- the kept list
+  -- ---- the kept list
 
-field-is : (j : ℕ) (words kept : List ℕ) (p : ℕ) → p < length kept → fieldAt j words kept p ≡ getD words (getD kept p 0 * 4 + j) 0
-unfolding fieldAt
-field-is j words kept p h = rw (lt-ltb _ _ h)
-
-module _ (text words : List ℕ) (formed : WellFormed text words) where
   abbrev at : Positions
-  at = positions words (keptOf words)
+  at = keptPositions words
 
   -- a kept token starts at or before its end, and ends within the text
   pub kept-range : (p : ℕ) → p < length (keptOf words) → (at .start p ≤ at .end p) × (at .end p ≤ length text)
-  kept-range p h = let r = ranged text words formed (getD (keptOf words) p 0) (omega (arith, kept-rising words .high p h)) in (r .forwards, r .within)
+  kept-range p h = let r = ranged (getD (keptOf words) p 0) (omega (arith, kept-rising words .high p h)) in (r .forwards, r .within)
 
   -- and at or before the start of the next
   pub kept-next : (p : ℕ) → suc p < length (keptOf words) → at .end p ≤ at .start (suc p)
   kept-next p h =
       let r = kept-rising words in
-      ends-before text words formed (getD (keptOf words) p 0) (getD (keptOf words) (suc p) 0) (r .rises p h) (omega (arith, r .high (suc p) h))
+      ends-before (getD (keptOf words) p 0) (getD (keptOf words) (suc p) 0) (r .rises p h) (omega (arith, r .high (suc p) h))
 
   lined-kept : Lined words (keptOf words)
   lined-kept =
       record {
-        range = λ p h. rw (field-is 1 words (keptOf words) p h, field-is 2 words (keptOf words) p h) (kept-range p h .0);
+        range = λ p h. rw (field-inside text words (keptOf words) 1 p h, field-inside text words (keptOf words) 2 p h) (kept-range p h .0);
         next = λ p h.
             let here : p < length (keptOf words) = omega arith in
-            rw (field-is 2 words (keptOf words) p here, field-is 1 words (keptOf words) (suc p) h) (kept-next p h);
-        end = λ p h. rw (field-is 2 words (keptOf words) p h) (omega (arith, short text words formed, kept-range p h .1));
+            rw (field-inside text words (keptOf words) 2 p here, field-inside text words (keptOf words) 1 (suc p) h) (kept-next p h);
+        end = λ p h. rw (field-inside text words (keptOf words) 2 p h) (omega (arith, short, kept-range p h .1));
       }
 
 -- what a well-formed list of so few tokens leaves

@@ -29,7 +29,7 @@ module _ (text words kept : List ℕ) where
   pub view-past : (p : ℕ) → length kept ≤ p → tokenAt (view text words kept) p ≡ eofToken
   view-past p h = List·getD-eq-default (view text words kept) eofToken (rw view-length h)
 
-  field-inside : (j p : ℕ) → p < length kept → fieldAt j words kept p ≡ getD words (getD kept p 0 * 4 + j) 0
+  pub field-inside : (j p : ℕ) → p < length kept → fieldAt j words kept p ≡ getD words (getD kept p 0 * 4 + j) 0
   unfolding fieldAt
   field-inside j p h = rw (lt-ltb _ _ h)
 

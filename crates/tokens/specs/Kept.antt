@@ -4,7 +4,7 @@ use mathlib.Core.Bool.{Bool, true, false, _||_}
 use mathlib.Core.List.{List, [], _∷_}
 use lib.Dec.{eqb}
 use Rattle.tokens.specs.Kind.{Whitespace, Comment}
-use Rattle.tokens.specs.Token.{Token, tokenCount, kindOf, view}
+use Rattle.tokens.specs.Token.{Token, tokenCount, kindOf, view, Positions, positions}
 
 -- the kinds that are dropped
 unfoldable pub dropped : ℕ → Bool
@@ -27,3 +27,7 @@ keptOf words = keptFrom words (tokenCount words) 0
 -- the kept tokens, as the grammar sees them
 abbrev pub keptTokens : List ℕ → List ℕ → List Token
 keptTokens text words = view text words (keptOf words)
+
+-- where they stand in the text
+abbrev pub keptPositions : List ℕ → Positions
+keptPositions words = positions words (keptOf words)
