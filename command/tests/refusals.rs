@@ -3,7 +3,7 @@
 mod common;
 
 use common::{cut, list, Input};
-use simmerotter::Kind;
+use simmerotter::{push_token, Kind};
 
 /// The refusal of a file written with spaces between its words.
 fn file(name: &str, text: &str) -> String {
@@ -279,4 +279,38 @@ fn a_list_at_fault_as_a_whole_has_no_token() {
     assert_eq!(Input::new("refusals_none", b"abc", &[]).refused(&[]), wanted);
     let wanted = "refusals_five.words: 30 NotWellFormed: the list's 5 words are not four a token\n";
     assert_eq!(Input::new("refusals_five", b"", &[0, 0, 0, 0, 0]).refused(&["--body", "7"]), wanted);
+}
+
+/// How `examples/broken.huff` is refused with tokens put in before the one of this number.
+fn broken_with(number: usize, tokens: &[(Kind, &str)]) -> String {
+    let (text, words) = (include_bytes!("../../examples/broken.huff"), include_bytes!("../../examples/broken.words"));
+    let words: Vec<u32> = words.chunks(4).map(|word| u32::from_le_bytes(word.try_into().unwrap())).collect();
+    let (before, behind) = words.split_at(4 * number);
+    let (text_before, text_behind) = text.split_at(behind[1] as usize);
+    let (mut text, mut words) = (text_before.to_vec(), before.to_vec());
+    for (kind, own) in tokens {
+        let start = text.len();
+        text.extend_from_slice(own.as_bytes());
+        push_token(&mut words, *kind, start as u32, text.len() as u32, 0);
+    }
+    let moved = (text.len() - text_before.len()) as u32;
+    text.extend_from_slice(text_behind);
+    behind.chunks(4).for_each(|token| words.extend([token[0], token[1] + moved, token[2] + moved, token[3]]));
+    Input::new("refusals_broken", &text, &words).refused(&[])
+}
+
+/// White space and comments before the cursor move its line, column and number in the list; other tokens behind it, nothing.
+#[test]
+fn the_same_mistake_has_the_same_number_and_place() {
+    for (number, tokens, position, of_the_list) in [
+        (112, &[][..], "19:15", 112),
+        (112, &[(Kind::Comment, "/* 300 */"), (Kind::Whitespace, "\n\t\t")][..], "20:3", 114),
+        (0, &[(Kind::Comment, "// a line\n"), (Kind::Whitespace, "\n")][..], "21:15", 114),
+        (113, &[(Kind::CloseBrace, "}"), (Kind::Pound, "#"), (Kind::Ident, "more")][..], "19:15", 112),
+    ] {
+        let found = broken_with(number, tokens);
+        let first = format!("refusals_broken.huff:{}: 4 InvalidPush: 0x012c has 2 bytes and push1 takes 1\n", position);
+        let last = format!("\ntoken place 55 (number {} of the list)\n", of_the_list);
+        assert!(found.starts_with(&first) && found.ends_with(&last), "{}", found);
+    }
 }

@@ -6,7 +6,7 @@ use mathlib.Core.Logic.{_↔_}
 use mathlib.Core.Bool.{Bool, true, false, cond}
 use mathlib.Core.List.{List, [], map}
 use borrow.Author.Tests.{ltb-true, ltb-false, lt-ltb, le-ltb}
-use lib.ListN.{length, getD, take, length-map}
+use lib.ListN.{length, getD, length-map}
 use lib.Dec.{ltb, eqb}
 use Rattle.tokens.specs.Number as number
 use Rattle.tokens.specs.Number.{definitionWidth, statementWidth, argumentWidth, labelType, macroDefinition, testDefinition, lenientMode, strictMode}
@@ -26,11 +26,12 @@ use Rattle.grammar.specs.FileFollows.{FollowsFile, RepeatedAt, Reached, FirstWr
 use Rattle.grammar.specs.Call.{ReadingNumber, acceptance, refusalOf, refusal, refusalAt, fileNumbers, afterDoor, TellsType, recordsOf, filled, heldAfter}
 use Rattle.grammar.specs.Tables.{Stands, typeWord, firstWord, endWord, innerWord, Flat}
 use Rattle.grammar.specs.FileTables.{FileTable, definitionWord, StatementsOf}
+use Rattle.grammar.specs.TextRanges.{placed}
 use Rattle.grammar.specs.Cases.{tokensOf}
-use Rattle.grammar.specs.FileCases.{FileOutcome, FileRow, fileOutcome, ended, placed, outcomeAt, fileRows, strictFiles}
-use Rattle.grammar.proofs.Lists.{all-map, all-mapped, agree-at}
+use Rattle.grammar.specs.FileCases.{FileOutcome, FileRow, fileOutcome, ended, outcomeAt, fileRows, strictFiles}
+use Rattle.grammar.proofs.Lists.{all-map, all-mapped}
 use Rattle.grammar.proofs.Numbers.{file-ours, held-refused, tells-accepted, tells-none, tells-at}
-use Rattle.grammar.proofs.FileDemand.{file-exactly, file-cursor, file-repeated, file-pound, file-same-refusal}
+use Rattle.grammar.proofs.FileDemand.{file-exactly, file-cursor, file-repeated, file-pound}
 use Rattle.grammar.proofs.FileRecorded.{file-as-many, file-as-wide}
 use Rattle.grammar.proofs.Tabled.{stored-filled, walk-labels-all}
 use Rattle.grammar.proofs.FileTabled.{file-tabled, file-walked}
@@ -262,32 +263,6 @@ module _ {mode : ℕ} {text words kept definitions statements arguments : List �
       go v (says-33 n ds l f h k) = tells-none tokens number.StatementsTooSmall _ (omega arith)
       go v (says-34 n ds l f h k g) = tells-none tokens number.ArgumentsTooSmall _ (omega arith)
       go v (says-read n ds l f room) = tells-accepted tokens _ _ _ _
-
--- another call in the same mode, on a well-formed list with a kept list long enough, whose kept tokens are the same from place 0 to the cursor: it is refused alike,
--- with the same type and size, and its tables are zero. Not so for 20: a macro's brace, behind its name, has to be read first
-module _ {mode : ℕ} {text words kept definitions statements arguments : List ℕ} {r : File} {kept′ definitions′ statements′ arguments′ : List ℕ}
-    {text₂ words₂ kept₂ definitions₂ statements₂ arguments₂ : List ℕ} {r₂ : File} {kept₂′ definitions₂′ statements₂′ arguments₂′ : List ℕ} where
-  pub file-call-same-refusal : (c q : ℕ) (told : ℕ × ℕ)
-      → FileCall mode text words kept definitions statements arguments r kept′ definitions′ statements′ arguments′
-      → values r ≡ refusalOf c q told → ReadingNumber c → eqb c number.DuplicateMacro ≡ false
-      → WellFormed text₂ words₂ → length (keptOf words₂) ≤ length kept₂
-      → take (suc q) (keptTokens text words) ≡ take (suc q) (keptTokens text₂ words₂)
-      → FileCall mode text₂ words₂ kept₂ definitions₂ statements₂ arguments₂ r₂ kept₂′ definitions₂′ statements₂′ arguments₂′
-      → (values r₂ ≡ refusalOf c q told)
-      × (definitions₂′ ≡ filled (length definitions₂) [])
-      × (statements₂′ ≡ filled (length statements₂) [])
-      × (arguments₂′ ≡ filled (length arguments₂) [])
-  unfolding afterReading
-  file-call-same-refusal c q told call is ours other formed room agree second =
-      let there = refused-there call c q told is ours in
-      let reads = file-same-refusal (rulesOf mode) true (keptTokens text words) (keptTokens text₂ words₂) c q (there .reads) other agree in
-      let tells : told ≡ typeTold c (tokenAt (keptTokens text₂ words₂) q) = there .tells ∙ ap (typeTold c) (agree-at q (keptTokens text words) (keptTokens text₂ words₂) agree) in
-      let said : values r₂ ≡ refusalOf c q told = second .answer ∙ rw (tells, there .through .known, let-through text₂ words₂ 0 (length kept₂) formed room (kept-not-empty text₂ words₂ formed)) (rw reads) in (
-        said,
-        second .definitionsHold ∙ rw said (held-refused c _ definitions₂ ours),
-        second .statementsHold ∙ rw said (held-refused c _ statements₂ ours),
-        second .argumentsHold ∙ rw said (held-refused c _ arguments₂ ours),
-      )
 
 -- ---- with room
 

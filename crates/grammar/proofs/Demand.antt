@@ -17,7 +17,8 @@ use Rattle.grammar.specs.Result.{Why, number, beyond, Res, got, bad, Ans
 use Rattle.grammar.specs.Reader.{bodyFrom, bodyAt}
 use Rattle.grammar.specs.Follows.{Follows, Begins, FirstWrong, past, isBodyNumber}
 use Rattle.grammar.specs.Means.{Means}
-use Rattle.grammar.proofs.Lists.{agree-less, agree-drop, not-less}
+use Rattle.grammar.specs.Same.{Agree}
+use Rattle.grammar.proofs.Lists.{agree-less, agree-from, not-less}
 use Rattle.grammar.proofs.Holds.{Holds, well, ill}
 use Rattle.grammar.proofs.Sound.{Told, Any, body-holds}
 use Rattle.grammar.proofs.Complete.{body-complete}
@@ -74,17 +75,16 @@ refused-none m kept p c q e n r h =
 -- every list that keeps the tokens up to the first wrong one is refused alike
 wrong-place : (m : Rules) (kept other : List Token) (p : ℕ) (y : Why) (w : ℕ)
     → Holds (Told m) (Body m p) (Any (Body m p)) p (bodyFrom m p) (drop p kept) (bad y w)
-    → take (suc w) kept ≡ take (suc w) other
+    → Agree p w kept other
     → bodyFrom m p (drop p other) ≡ bad y w
-wrong-place m kept other p y w (ill h) e =
-    h .sure (drop p other) (agree-drop p (suc (h .off)) kept other (agree-less (p + suc (h .off)) (suc w) kept other (omega (arith, h .place)) e))
+wrong-place m kept other p y w (ill h) e = h .sure (drop p other) (agree-less (suc (h .off)) (suc w - p) (drop p kept) (drop p other) (omega (arith, h .place)) e)
 
--- Theorem 4. Refused at cursor q, every list with the same tokens from place 0 to q is refused alike
-pub same-refusal : (m : Rules) (kept other : List Token) (p c q : ℕ) → bodyAt m kept p ≡ refused c q → take (suc q) kept ≡ take (suc q) other → bodyAt m other p ≡ refused c q
+-- Theorem 4. Refused at cursor q, every list with the same tokens from the start to q is refused alike
+pub same-refusal : (m : Rules) (kept other : List Token) (p c q : ℕ) → bodyAt m kept p ≡ refused c q → Agree p q kept other → bodyAt m other p ≡ refused c q
 unfolding bodyAt
 same-refusal m kept other p c q e a =
     let (y, w, x, cy, cw) = was-refused (bodyFrom m p (drop p kept)) c q e in
-    let h = wrong-place m kept other p y w (at-body m kept p (bad y w) x) (agree-less (suc w) (suc q) kept other (omega arith) a) in
+    let h = wrong-place m kept other p y w (at-body m kept p (bad y w) x) (agree-less (suc w - p) (suc q - p) (drop p kept) (drop p other) (omega arith) a) in
     ap answer h ∙ cc
 
 first-wrong : (m : Rules) (kept : List Token) (p : ℕ) (y : Why) (w : ℕ) → p ≤ length kept
@@ -96,7 +96,10 @@ first-wrong m kept p y w inside (ill h) = (
     before = omega (arith, h .place);
     inside = omega (arith, h .place, h .within, length-drop p kept);
     begins = (h .goes .0, h .goes .2 .0, rw off h-body, h .goes .1);
-    hopeless = λ other e r n f. let z = sym (complete m other p n r f) ∙ wrong-place m kept other p y w (ill h) e in let o : _≡_ {A = ℕ} 0 1 = cc in omega arith;
+    hopeless = λ other e r n f.
+        let z = sym (complete m other p n r f) ∙ wrong-place m kept other p y w (ill h) (agree-from p w kept other e) in
+        let o : _≡_ {A = ℕ} 0 1 = cc in
+        omega arith;
   },
   h .told .0 ∙ ap (past (number y)) (drop-drop (h .off) p kept ∙ ap (λ k. drop k kept) (sym (h .place))),
 )

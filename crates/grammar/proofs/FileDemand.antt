@@ -1,7 +1,7 @@
 -- The theorems on files: accepted exactly if the tokens before Eof follow the grammar; the prefix law; the cursor; 20 and 21 stated apart. All hold for
 -- every rule set.
 use Prim.Native.Nat.{ℕ, zero, suc, _+_, _-_, _≤_, _<_}
-use native.Mathlib.Nat.{add-zero, le-antisymm}
+use native.Mathlib.Nat.{add-zero, sub-zero, le-antisymm}
 use native.Mathlib.Numerals.{add-one}
 use native.Mathlib.Omega.{arith}
 use mathlib.Core.Path.{_≡_, refl, sym, _∙_, ap}
@@ -25,6 +25,7 @@ use Rattle.grammar.specs.FileGrammar.{Defined, repeats, rememberName, Fr
 use Rattle.grammar.specs.FileReader.{byKind, topLevel, parse, fileAt}
 use Rattle.grammar.specs.FileFollows.{FollowsFile, macroNames, RepeatedAt, Reached, FirstWrongFile, CursorAt, hasTyped, pastIn, isDefinitionNumber}
 use Rattle.grammar.specs.FileMeans.{MeansFile, meansRead, meansRepeated, meansWrong}
+use Rattle.grammar.specs.Same.{Agree}
 use Rattle.grammar.proofs.Demand.{was-read, was-refused}
 use Rattle.grammar.proofs.Lists.{agree-less, agree-drop, agree-cons, agree-none, not-less}
 use Rattle.grammar.proofs.Holds.{Holds, ill, NoneOrOne, nothing, one, some-of}
@@ -112,12 +113,12 @@ same-halt m names names′ kept other y w weaken (halted n {ds = ds} {w = v} {us
         ∙ turn-bad m names′ (seenAfter [] ds) v (drop n other) y w (going-agrees (b .off) us (drop n other) back g) (b .sure (drop n other) back))
 
 -- Theorem 3. Refused at cursor q with a number other than 20, every list with the same tokens from place 0 to q is refused alike
-pub file-same-refusal : (m : Rules) (names : Bool) (kept other : List Token) (c q : ℕ) → fileAt m names kept ≡ refused c q → eqb c 20 ≡ false → take (suc q) kept ≡ take (suc q) other
+pub file-same-refusal : (m : Rules) (names : Bool) (kept other : List Token) (c q : ℕ) → fileAt m names kept ≡ refused c q → eqb c 20 ≡ false → Agree 0 q kept other
     → fileAt m names other ≡ refused c q
 unfolding fileAt
 file-same-refusal m names kept other c q e h a =
     let (y, w, x, cy, cw) = was-refused (parse m names [] 0 kept) c q e in
-    let r = same-halt m names names kept other y w (λ n ds f. f) (at-file m names kept (bad y w) x) (rw cy h) (agree-less (suc w) (suc q) kept other (omega arith) a) in
+    let r = same-halt m names names kept other y w (λ n ds f. f) (at-file m names kept (bad y w) x) (rw cy h) (agree-less (suc w) (suc q) kept other (omega arith) (rw (sub-zero (suc q)) at a)) in
     ap answer r ∙ cc
 
 -- with another number than 20, the rule on names plays no part

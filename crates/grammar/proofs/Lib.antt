@@ -27,5 +27,6 @@ pub mod Lengths
 pub mod Tabled
 pub mod FileTabled
 pub mod TextRanges
+pub mod Same
 pub mod Only
 pub mod FileOnly

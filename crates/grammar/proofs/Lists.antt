@@ -1,17 +1,18 @@
 -- Small laws: two lists of tokens that agree at their beginning, proper tokens, what holds of every element.
-use Prim.Native.Nat.{ℕ, zero, suc, _+_, _≤_, _<_}
+use Prim.Native.Nat.{ℕ, zero, suc, _+_, _-_, _≤_, _<_}
 use Prim.Native.String.{String}
-use native.Mathlib.Nat.{zero-add, suc-add}
 use native.Mathlib.Omega.{arith}
 use mathlib.Core.Path.{_≡_, refl, sym, _∙_, ap}
 use mathlib.Core.Bool.{Bool, true, false, _&&_}
 use mathlib.Core.List.{List, [], _∷_, _++_, map}
-use lib.ListN.{length, take, drop}
-use lib.Seq.{take-take, take-nil}
+use lib.ListN.{length, take, drop, length-drop}
+use lib.Seq.{take-take, getD-drop}
 use Rattle.tokens.specs.Byte.{bytes}
-use Rattle.tokens.specs.Token.{Token, tokenAt}
+use Rattle.tokens.specs.Token.{Token, tokenAt, eofToken}
+use Rattle.tokens.proofs.Laws.{drop-take}
 use Rattle.grammar.specs.Follows.{proper, allProper}
 use Rattle.grammar.specs.Facts.{All}
+use Rattle.grammar.specs.Same.{Agree}
 
 -- a token of a kind that asks for no text, and one with a text: what a beginning can be finished with
 abbrev pub mark : ℕ → Token
@@ -20,17 +21,16 @@ mark kind = record { kind = kind; text = []; extra = 0 }
 abbrev pub word : ℕ → String → Token
 word kind letters = record { kind = kind; text = bytes letters; extra = 0 }
 
-pub drop-take : (n m : ℕ) (ts : List Token) → drop n (take (n + m) ts) ≡ take m (drop n ts)
-drop-take zero m ts = ap (λ k. take k ts) (zero-add m)
-drop-take (suc n) m [] = rw (suc-add n m) (sym (take-nil m))
-drop-take (suc n) m (t ∷ ts) = rw (suc-add n m) (drop-take n m ts)
-
 -- lists that agree on n tokens agree on fewer
 pub agree-less : (m n : ℕ) (ts us : List Token) → m ≤ n → take n ts ≡ take n us → take m ts ≡ take m us
 agree-less m n ts us h e = sym (take-take m n ts h) ∙ ap (take m) e ∙ take-take m n us h
 
+-- and behind some of those
 pub agree-drop : (n m : ℕ) (ts us : List Token) → take (n + m) ts ≡ take (n + m) us → take m (drop n ts) ≡ take m (drop n us)
-agree-drop n m ts us e = sym (drop-take n m ts) ∙ ap (drop n) e ∙ drop-take n m us
+agree-drop n m ts us e = let k : n + m - n ≡ m = omega arith in rw k at (sym (drop-take n (n + m) ts) ∙ ap (drop n) e ∙ drop-take n (n + m) us)
+
+pub agree-from : (p q : ℕ) (ts us : List Token) → take (suc q) ts ≡ take (suc q) us → Agree p q ts us
+agree-from p q ts us e = sym (drop-take p (suc q) ts) ∙ ap (drop p) e ∙ drop-take p (suc q) us
 
 -- and have the same first token
 pub agree-first : (n : ℕ) (ts us : List Token) → take (suc n) ts ≡ take (suc n) us → tokenAt ts 0 ≡ tokenAt us 0
@@ -49,16 +49,34 @@ pub agree-none : (n : ℕ) (us : List Token) → take (suc n) [] ≡ take (suc n
 agree-none n [] e = refl
 agree-none n (u ∷ us) e = cc
 
+pub agree-cons : (n : ℕ) (t : Token) (ts us : List Token) → take (suc n) (t ∷ ts) ≡ take (suc n) us → (vs : List Token) × (us ≡ t ∷ vs)
+agree-cons n t ts [] e = ([], cc)
+agree-cons n t ts (u ∷ us) e = (us, cc)
+
+-- and if the one has a token, the other has
+agree-some : (n : ℕ) (ts us : List Token) → take (suc n) ts ≡ take (suc n) us → 0 < length ts → 0 < length us
+agree-some n [] us e h = absurd (omega (arith, h))
+agree-some n (t ∷ ts) us e h = rw (agree-cons n t ts us e .1) (omega arith)
+
 -- and the same last token of those on which they agree
-pub agree-at : (n : ℕ) (ts us : List Token) → take (suc n) ts ≡ take (suc n) us → tokenAt ts n ≡ tokenAt us n
+agree-at : (n : ℕ) (ts us : List Token) → take (suc n) ts ≡ take (suc n) us → tokenAt ts n ≡ tokenAt us n
 agree-at zero ts us e = agree-first zero ts us e
 agree-at (suc n) [] us e = ap (λ (l : List Token). tokenAt l (suc n)) (sym (agree-none (suc n) us e))
 agree-at (suc n) (t ∷ ts) [] e = cc
 agree-at (suc n) (t ∷ ts) (u ∷ us) e = agree-at n ts us (cc)
 
-pub agree-cons : (n : ℕ) (t : Token) (ts us : List Token) → take (suc n) (t ∷ ts) ≡ take (suc n) us → (vs : List Token) × (us ≡ t ∷ vs)
-agree-cons n t ts [] e = ([], cc)
-agree-cons n t ts (u ∷ us) e = (us, cc)
+-- lists that agree from p to q have the same token at q, and if the one has a token at p, the other has
+pub agree-last : (p q : ℕ) (ts us : List Token) → p ≤ q → Agree p q ts us → tokenAt ts q ≡ tokenAt us q
+agree-last p q ts us h e =
+    let k : suc q - p ≡ suc (q - p) = omega arith in
+    let at : p + (q - p) ≡ q = omega arith in
+    let there : (vs : List Token) → tokenAt (drop p vs) (q - p) ≡ tokenAt vs q = λ vs. getD-drop p vs (q - p) eofToken ∙ ap (tokenAt vs) at in
+    sym (there ts) ∙ agree-at (q - p) (drop p ts) (drop p us) (rw k at e) ∙ there us
+
+pub agree-inside : (p q : ℕ) (ts us : List Token) → p ≤ q → Agree p q ts us → p < length ts → p < length us
+agree-inside p q ts us h e inside =
+    let k : suc q - p ≡ suc (q - p) = omega arith in
+    omega (arith, agree-some (q - p) (drop p ts) (drop p us) (rw k at e) (omega (arith, length-drop p ts)), length-drop p us)
 
 pub proper-append : (xs ys : List Token) → allProper xs ≡ true → allProper ys ≡ true → allProper (xs ++ ys) ≡ true
 unfolding allProper
@@ -90,14 +108,6 @@ all-map P Q (x ∷ xs) f h = (f x (h .0), all-map P Q xs f (h .1))
 pub all-mapped : {A B : Type 0} (f g : A → B) (xs : List A) → map f xs ≡ map g xs → All (λ x. f x ≡ g x) xs
 all-mapped f g [] e = tt
 all-mapped f g (x ∷ xs) e = (cc, all-mapped f g xs (cc))
-
--- a place inside a list and before n is inside every list with the same first n tokens
-pub agree-length : (p n : ℕ) (ts us : List Token) → take n ts ≡ take n us → p < n → p < length ts → p < length us
-agree-length p zero ts us e h k = absurd (omega (arith, h))
-agree-length p (suc n) [] us e h k = absurd (omega (arith, k))
-agree-length p (suc n) (t ∷ ts) [] e h k = absurd (omega (arith, ap length e))
-agree-length zero (suc n) (t ∷ ts) (u ∷ us) e h k = omega arith
-agree-length (suc p) (suc n) (t ∷ ts) (u ∷ us) e h k = omega (arith, agree-length p n ts us (cc) (omega arith) (omega arith))
 
 -- of two numbers of which the first is not less
 pub not-less : {a b : ℕ} → ¬ (a < b) → b ≤ a

@@ -16,7 +16,7 @@ use Rattle.grammar.specs.Result.{refused}
 use Rattle.grammar.specs.Reader.{bodyAt}
 use Rattle.grammar.specs.FileReader.{fileAt}
 use Rattle.grammar.specs.FileFollows.{isDefinitionNumber}
-use Rattle.grammar.specs.Call.{ReadingNumber, acceptance, refusal, refusalAt, TellsType, filled, heldAfter}
+use Rattle.grammar.specs.Call.{ReadingNumber, acceptance, refusal, refusalAt, TellsType, filled, turnedAway, heldAfter}
 use Rattle.grammar.proofs.FileHolds.{either, body-is-inner}
 use Rattle.grammar.proofs.Demand.{known-numbers}
 use Rattle.grammar.proofs.FileDemand.{file-numbers}
@@ -44,11 +44,15 @@ file-ours m names kept c q e =
     either _ (eqb c 20) (either (isDefinitionNumber m c) (eqb c 21) (definition-ours m c) (λ h. rw (eqb-true c 21 h) (omega arith))) (λ h. rw (eqb-true c 20 h) (omega arith))
     (file-numbers m names kept c q e)
 
+-- none of them is one of a call that is turned away
+pub ours-reads : (c : ℕ) → ReadingNumber c → turnedAway c ≡ false
+ours-reads c h =
+    rw (ne-eqb c 30 (λ e. omega (arith, h .1)), ne-eqb c 31 (λ e. omega (arith, h .1)), ne-eqb c 35 (λ e. omega (arith, h .1)), ne-eqb c 36 (λ e. omega (arith, h .1)), ne-eqb c 38 (λ e. omega (arith, h .1)))
+
 -- after such a refusal a table holds zeros
 pub held-refused : (c : ℕ) (rs : List (List ℕ)) (lent : List ℕ) → ReadingNumber c → heldAfter c rs lent ≡ filled (length lent) []
 unfolding heldAfter
-held-refused c rs lent h =
-    rw (ne-eqb c 30 (λ e. omega (arith, h .1)), ne-eqb c 31 (λ e. omega (arith, h .1)), ne-eqb c 35 (λ e. omega (arith, h .1)), ne-eqb c 36 (λ e. omega (arith, h .1)), ne-eqb c 38 (λ e. omega (arith, h .1)), ne-eqb c 0 (λ e. omega (arith, h .0)))
+held-refused c rs lent h = rw (ours-reads c h, ne-eqb c 0 (λ e. omega (arith, h .0)))
 
 -- ---- the last two numbers
 

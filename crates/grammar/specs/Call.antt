@@ -74,12 +74,14 @@ recordsOf records (refused c q) = []
 abbrev pub filled : ℕ → List (List ℕ) → List ℕ
 filled size rs = flatten rs ++ replicate (size - length (flatten rs)) 0
 
--- what a table holds after a call with this number: after 30, 31, 35, 36 and 38 "nothing lent has changed"; accepted, "the records followed by zeros"; "after
--- a refusal only zeros"
+-- the numbers of a call that is turned away before it reads: 30, 31, 35, 36 and 38
+abbrev pub turnedAway : ℕ → Bool
+turnedAway c = eqb c NotWellFormed || eqb c StartOutside || eqb c KeptTooShort || eqb c UnknownMode || eqb c UnknownEdition
+
+-- what a table holds after a call with this number: turned away, "nothing lent has changed"; accepted, "the records followed by zeros"; "after a refusal only
+-- zeros"
 unfoldable pub heldAfter : ℕ → List (List ℕ) → List ℕ → List ℕ
-heldAfter c rs lent =
-    cond (eqb c NotWellFormed || eqb c StartOutside || eqb c KeptTooShort || eqb c UnknownMode || eqb c UnknownEdition) lent
-    (cond (eqb c 0) (filled (length lent) rs) (filled (length lent) []))
+heldAfter c rs lent = cond (turnedAway c) lent (cond (eqb c 0) (filled (length lent) rs) (filled (length lent) []))
 
 -- what the last two numbers of an answer for these kept tokens tell: for 7 the type and size of the token at the cursor; for every other number they are 0
 pub record TellsType (kept : List Token) (v : List ℕ) : Type 0 where

@@ -1,14 +1,15 @@
 -- Document 01, "Bodies and files on both sides": the rows of files, input and answer side by side, further files, and those of requests [1] and [7]. Eof follows each.
-use Prim.Native.Nat.{ℕ, _+_, _-_}
+use Prim.Native.Nat.{ℕ, _+_}
 use Prim.Native.String.{String}
 use mathlib.Core.List.{List, [], _∷_, _++_, map}
-use lib.ListN.{length, getD}
+use lib.ListN.{length}
 use Rattle.tokens.specs.Byte.{bytes}
 use Rattle.tokens.specs.Token.{Token, Positions}
 use Rattle.tokens.specs.Kind.{Eof, Whitespace, Comment, Include, Define, Pound, Macro, Fn, Test, Function, Event, Constant, Error, JumpTable, JumpTablePacked, CodeTable, Takes, Returns, View, Indexed, Calldata, Memory, Assign, OpenParen, CloseParen, OpenBrace, CloseBrace, Comma, Colon, FreeStoragePointer, Ident, Label, Literal, Str, PrimitiveType}
 use Rattle.grammar.specs.Reading.{NONE}
 use Rattle.grammar.specs.FileReading.{Definition}
 use Rattle.grammar.specs.FileRecords.{definitionRecords, fileStatements, fileArgumentRecords}
+use Rattle.grammar.specs.TextRanges.{placed}
 use Rattle.grammar.specs.Result.{Answer}
 use Rattle.grammar.specs.Call.{acceptance, refusal, refusalOf, fileNumbers, recordsOf}
 use Rattle.grammar.specs.Cases.{Sketch, mark, word, num, PUSH1}
@@ -38,10 +39,6 @@ pub record FileRow : Type 0 where
 -- a file and its Eof
 abbrev pub ended : List Sketch → List Sketch
 ended ts = ts ++ (mark Eof ∷ [])
-
--- request [7]: with the last two words, where the first token of its range starts and where the last one ends
-abbrev pub placed : Positions → List ℕ → List ℕ
-placed pos words = words ++ (pos .start (getD words 2 0) ∷ pos .end (getD words 3 0 - 1) ∷ [])
 
 -- the whole outcome, by where the tokens stand in the text
 abbrev pub outcomeAt : FileRow → Positions → FileOutcome

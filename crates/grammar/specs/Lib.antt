@@ -18,11 +18,12 @@ pub mod FileRecords
 pub mod FileReader
 pub mod FileFollows
 pub mod FileMeans
-pub mod FileCases
 pub mod Typed
 pub mod Call
 pub mod Tables
 pub mod FileTables
 pub mod TextRanges
+pub mod FileCases
+pub mod Same
 pub mod Written
 pub mod Again

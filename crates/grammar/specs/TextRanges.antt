@@ -1,7 +1,8 @@
 -- Request [7], what a reader of the tables relies on: the byte ranges of definition records, their last two words, in the text and among each other.
 use Prim.Native.Nat.{ℕ, zero, suc, _-_, _≤_, _<_}
 use mathlib.Core.Path.{_≡_}
-use mathlib.Core.List.{List, _++_}
+use mathlib.Core.List.{List, [], _∷_, _++_}
+use lib.ListN.{getD}
 use Rattle.tokens.specs.Token.{Token, part, tokenAt, Positions}
 use Rattle.grammar.specs.FileTables.{definitionWord}
 
@@ -20,6 +21,10 @@ startByte = definitionWord 12
 -- the byte before which it ends
 abbrev pub endByte : List ℕ → ℕ → ℕ
 endByte = definitionWord 13
+
+-- a definition record without its last two words, and with them: where the first token of its range starts and where the last one ends
+abbrev pub placed : Positions → List ℕ → List ℕ
+placed pos words = words ++ (pos .start (getD words 2 0) ∷ pos .end (getD words 3 0 - 1) ∷ [])
 
 -- the byte ranges of n definition records from number d on lie one behind the other from byte b on, and none goes beyond byte e
 abbrev pub InOrder : List ℕ → ℕ → ℕ → ℕ → ℕ → Type 0

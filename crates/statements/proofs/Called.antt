@@ -1,5 +1,5 @@
 -- Theorems about `read_body`'s own promise: what an accepted call and a refused one say of the tokens and leave in the tables. Assumes nothing.
-use Prim.Native.Nat.{ℕ, zero, suc, _+_, _-_, _/_, _≤_, _<_}
+use Prim.Native.Nat.{ℕ, suc, _+_, _-_, _/_, _≤_, _<_}
 use native.Mathlib.Nat.{zero-add}
 use native.Mathlib.Omega.{arith}
 use mathlib.Core.Path.{_≡_, refl, sym, ap, _∙_}
@@ -30,9 +30,9 @@ use Rattle.grammar.specs.PlainLength.{isEdition, shortZeros, bodyInstructions, 
 use Rattle.grammar.specs.Call.{ReadingNumber, acceptance, refusalOf, refusal, refusalAt, bodyNumbers, bodyEntrance, afterDoor, TellsType, recordsOf, filled, heldAfter}
 use Rattle.grammar.specs.Tables.{BodyTable, typeWord, firstWord, endWord, innerWord, Flat, Walk}
 use Rattle.grammar.specs.Cases.{Outcome, Row, outcome, braced, tokensOf, rows, strictRows, editionRows, typeRows}
-use Rattle.grammar.proofs.Lists.{all-map, all-mapped, agree-at, agree-length}
+use Rattle.grammar.proofs.Lists.{all-map, all-mapped}
 use Rattle.grammar.proofs.Numbers.{body-ours, held-refused, tells-accepted, tells-none, tells-at}
-use Rattle.grammar.proofs.Demand.{body-exactly, only-one, cursor, same-refusal}
+use Rattle.grammar.proofs.Demand.{body-exactly, only-one, cursor}
 use Rattle.grammar.proofs.Recorded.{as-many, as-wide}
 use Rattle.grammar.proofs.Lengths.{none-exactly, none-alike, editions-differ}
 use Rattle.grammar.proofs.Tabled.{stored-filled, body-tabled, body-walked, walk-labels-all}
@@ -271,33 +271,6 @@ module _ {mode edition : ℕ} {text words : List ℕ} {start : ℕ} {kept statem
       go v (says-33 n rd l f h) = tells-none tokens number.StatementsTooSmall _ (omega arith)
       go v (says-34 n rd l f h k) = tells-none tokens number.ArgumentsTooSmall _ (omega arith)
       go v (says-read n rd l f room) = tells-accepted tokens _ _ _ _
-
--- another call in the same mode from the same start, in whichever edition, on a well-formed list with a kept list long enough, whose kept tokens are the same from place 0 to the cursor: it is
--- refused alike, with the same type and size, and its tables are zero
-module _ {mode edition edition₂ : ℕ} {text words : List ℕ} {start : ℕ} {kept statements arguments : List ℕ} {r : Body} {kept′ statements′ arguments′ : List ℕ}
-    {text₂ words₂ kept₂ statements₂ arguments₂ : List ℕ} {r₂ : Body} {kept₂′ statements₂′ arguments₂′ : List ℕ} where
-  pub call-same-refusal : (c q : ℕ) (told : ℕ × ℕ)
-      → BodyCall mode edition text words start kept statements arguments r kept′ statements′ arguments′
-      → values r ≡ refusalOf c q told → ReadingNumber c
-      → isEdition edition₂ ≡ true → WellFormed text₂ words₂ → length (keptOf words₂) ≤ length kept₂
-      → take (suc q) (keptTokens text words) ≡ take (suc q) (keptTokens text₂ words₂)
-      → BodyCall mode edition₂ text₂ words₂ start kept₂ statements₂ arguments₂ r₂ kept₂′ statements₂′ arguments₂′
-      → (values r₂ ≡ refusalOf c q told) × (statements₂′ ≡ filled (length statements₂) []) × (arguments₂′ ≡ filled (length arguments₂) [])
-  unfolding afterReading
-  call-same-refusal c q told call is ours known formed room agree other =
-      let there = refused-there call c q told is ours in
-      let wrong = call-cursor call c q told is ours in
-      let reads = same-refusal (rulesOf mode) (keptTokens text words) (keptTokens text₂ words₂) start c q (there .reads) agree in
-      let all = view-length text words (keptOf words) in
-      let all₂ = view-length text₂ words₂ (keptOf words₂) in
-      let inside : start < length (keptTokens text₂ words₂) =
-      agree-length start (suc q) (keptTokens text words) (keptTokens text₂ words₂) agree (omega (arith, wrong .1 .before, wrong .2)) (omega (arith, there .through .list .inside, all)) in
-      let tells : told ≡ typeTold c (tokenAt (keptTokens text₂ words₂) q) = there .tells ∙ ap (typeTold c) (agree-at q (keptTokens text words) (keptTokens text₂ words₂) agree) in
-      let said : values r₂ ≡ refusalOf c q told = other .answer ∙ rw (tells, there .through .known .mode-known, known, let-through text₂ words₂ start (length kept₂) formed room (omega (arith, inside, all₂))) (rw reads) in (
-        said,
-        other .statementsHold ∙ rw said (held-refused c _ statements₂ ours),
-        other .argumentsHold ∙ rw said (held-refused c _ arguments₂ ours),
-      )
 
 -- ---- with room
 

@@ -9,3 +9,4 @@ pub mod EntryLaws
 pub mod Fixed
 pub mod Called
 pub mod Demand3
+pub mod Same

@@ -13,13 +13,13 @@ use lib.ListN.{length, getD, set}
 use lib.Seq.{sets, set-set}
 use Rattle.tokens.specs.Kind.{Eof, kinds}
 use Rattle.tokens.specs.Literal.{isLiteral}
-use Rattle.tokens.specs.Token.{kindOf, startOf, endOf, extraOf, tokenCount, part}
+use Rattle.tokens.specs.Token.{kindOf, startOf, endOf, extraOf, tokenCount, part, numbers}
 use Rattle.tokens.specs.WellFormed.{goodAfter, good, badFrom, firstBad, prevEnd, rangeGood, eofGood, textGood, extraGood, contentsGood, wholeGood, WellFormed}
 use Rattle.tokens.specs.Number as number
 use Rattle.tokens.specs.declared.door.Door.{Door}
 use Rattle.tokens.specs.Door.{values, door, keptAfter, Prepared}
 use Rattle.tokens.specs.Kept.{dropped, keptFrom, keptOf, keepUnless}
-use Rattle.tokens.specs.Keep.{numbers, EofLast}
+use Rattle.tokens.specs.Keep.{EofLast}
 use Rattle.tokens.proofs.Laws.{lt-or-le, left-step, left-none, and-left, and-right}
 
 -- ---- the first bad token
@@ -267,6 +267,16 @@ let-through text words start room formed enough inside = go (door text words sta
     go d (means-35 f h) = absurd (omega arith)
     go d (means-31 f h k) = absurd (omega arith)
     go d (means-through l) = ap (λ (n : ℕ). (0, n)) (sym (l .count))
+
+-- of a well-formed list the door asks the kept count alone
+pub door-formed : (text words : List ℕ) (start room : ℕ) → WellFormed text words
+    → door text words start room
+    ≡ cond (ltb room (length (keptOf words))) (number.KeptTooShort, length (keptOf words))
+    (cond (ltb start (length (keptOf words))) (0, length (keptOf words)) (number.StartOutside, start))
+unfolding door
+door-formed text words start room f =
+    let none : tokenCount words ≤ firstBad text words = ⊎-elim (λ (h : firstBad text words < tokenCount words). absurd (unformed text words h f)) (λ (h : tokenCount words ≤ firstBad text words). h) (lt-or-le (firstBad text words) (tokenCount words)) in
+    rw (f .whole, le-ltb _ _ none)
 
 -- the door's promise, from what was examined
 pub prepared : {text words kept kept′ : List ℕ} {start : ℕ} {x d : Door} → values x ≡ door text words start (length kept) → x ≡ d

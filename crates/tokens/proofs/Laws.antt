@@ -1,19 +1,19 @@
 -- Laws that the proofs of this crate and of those above cite, each once. Assumes nothing.
-use Prim.Native.Nat.{ℕ, zero, suc, _+_, _-_, _*_, _/_, _%_, _≤_, _<_, min}
-use mathlib.Core.Path.{_≡_, refl, sym, ap, _∙_}
-use mathlib.Core.Bool.{Bool, true, false, cond, not, _&&_, _||_, false≢true}
-use mathlib.Core.List.{List, [], _∷_, _++_, map}
+use Prim.Native.Nat.{ℕ, zero, suc, _+_, _-_, _*_, _/_, _≤_, _<_, min}
+use mathlib.Core.Path.{_≡_, refl, sym, _∙_}
+use mathlib.Core.Bool.{Bool, true, false, cond, not, _&&_, false≢true}
+use mathlib.Core.List.{List, [], _∷_}
 use mathlib.Core.Logic.{_⊎_, inl, inr, ⊎-elim}
 use native.Mathlib.Omega.{arith}
 use native.Mathlib.Numerals.{add-one}
-use native.Mathlib.Nat.{le-div-iff-mul-le, div-lt-iff-lt-mul, eq-zero-or-pos, suc-mul}
+use native.Mathlib.Nat.{sub-zero, zero-sub, suc-sub-suc, le-div-iff-mul-le, div-lt-iff-lt-mul, eq-zero-or-pos, suc-mul}
 use borrow.Author.Tests.{not-true, not-false, ltb-true, ltb-false, lt-ltb, le-ltb, le-leb, lt-leb, eq-eqb, ne-eqb}
 use lib.Dec.{ltb}
-use lib.ListN.{length, getD, take, drop, set, drop-of-length-le, length-drop, List·getD-eq-default, List·getD-map}
+use lib.ListN.{length, getD, take, drop, set, drop-of-length-le, length-drop}
 use lib.Seq.{take-nil, take-all, drop-cons, sets}
-use Rattle.tokens.specs.Lent.{put, putAll}
-use Rattle.tokens.specs.Token.{Token, eofToken, part, tokenOf, view, tokenAt}
-use Rattle.tokens.specs.Place.{fieldAt, kindAt, extraAt, textAt}
+use Rattle.tokens.specs.Lent.{put}
+use Rattle.tokens.specs.Token.{part}
+use Rattle.tokens.specs.Place.{fieldAt}
 
 -- ---- tests
 
@@ -50,7 +50,14 @@ said-no {r} e h = sym e ∙ not-true r h
 pub said-yes : {r x : Bool} → r ≡ x → not r ≡ false → x ≡ true
 said-yes {r} e h = sym e ∙ not-false r h
 
--- ---- parts of a text
+-- ---- parts of a list
+
+-- what is cut off in front of a front
+pub drop-take : {A : Type 0} (i j : ℕ) (l : List A) → drop i (take j l) ≡ take (j - i) (drop i l)
+drop-take zero j l = simp sub-zero
+drop-take (suc i) zero l = simp zero-sub
+drop-take (suc i) (suc j) [] = sym (take-nil (suc j - suc i))
+drop-take (suc i) (suc j) (x ∷ l) = simp suc-sub-suc (drop-take i j l)
 
 -- a part whose ends are cut to the text's length is the part itself
 pub part-clamped : (text : List ℕ) (s e f u : ℕ) → f ≡ min s (length text) → u ≡ min e (length text) → take (u - f) (drop f text) ≡ part text s e

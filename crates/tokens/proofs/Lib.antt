@@ -6,6 +6,8 @@ pub mod TypeNames
 pub mod DoorLaws
 pub mod TokenLaws
 pub mod KeptLaws
+pub mod PutBetween
 pub mod PlaceLaws
+pub mod PutAt
 pub mod Fixed
 pub mod LentLaws

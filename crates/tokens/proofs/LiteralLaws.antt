@@ -7,7 +7,7 @@ use mathlib.Core.Path.{_≡_, refl, sym, ap, _∙_}
 use mathlib.Core.Bool.{Bool, true, false, cond, not, _&&_, _||_, and-true, and-false, and-eq-true-iff, false≢true}
 use mathlib.Core.List.{List, [], _∷_, _++_, map}
 use mathlib.Core.Logic.{⊎-elim, _↔_}
-use native.Mathlib.Nat.{add-zero, zero-add, sub-zero, zero-sub, sub-self, suc-sub-suc, add-mul}
+use native.Mathlib.Nat.{add-zero, zero-add, sub-self, add-mul}
 use native.Mathlib.Nat.{not-suc-le-zero, lt-of-not-le, le-of-suc-le-suc, le-of-eq, eq-zero-or-pos, le-trans, lt-of-lt-of-le, lt-of-le-of-lt, mul-le-mul-right}
 use native.Mathlib.Nat.{mul-zero, zero-mul, mul-suc, mul-comm, mul-assoc, pow-zero, pow-suc, pow-le-pow-right, div-eq-of-lt, mod-lt, mod-le, mod-eq-of-lt, div-one}
 use native.Mathlib.Numerals.{add-one}
@@ -18,7 +18,8 @@ use lib.Arith.{digits-lt, digits-div, digits-mod, mod-mul}
 use lib.Pow.{pow-add, pow-mono}
 use lib.Count.{leadingZeros, leading-top}
 use lib.ListN.{length, take, drop, getD, length-take, length-drop, take-append-drop, drop-of-length-le}
-use lib.Seq.{take-all, drop-cons, drop-drop, take-nil, drop-nil}
+use lib.Seq.{take-all, drop-cons, drop-drop, drop-nil}
+use Rattle.tokens.proofs.Laws.{drop-take}
 use Rattle.tokens.specs.Byte.{bytes, same, isHex, digit, allHex, valueAfter, between, fromTo}
 use Rattle.tokens.specs.Literal.{isLiteral, literalValue, bytesFrom, significant}
 use Rattle.tokens.specs.Push.{pushByte, isValuePush, pushSize, fits}
@@ -300,12 +301,6 @@ value-parts ds back =
     let none : length ds - back ≡ 0 = omega arith in
     let small = value-small ds back (omega arith) in
     rw none (sym (div-eq-of-lt small), sym (mod-eq-of-lt small)))
-
-drop-take : (i j : ℕ) (l : List ℕ) → drop i (take j l) ≡ take (j - i) (drop i l)
-drop-take zero j l = simp sub-zero
-drop-take (suc i) zero l = simp zero-sub
-drop-take (suc i) (suc j) [] = sym (take-nil (suc j - suc i))
-drop-take (suc i) (suc j) (x ∷ l) = simp suc-sub-suc (drop-take i j l)
 
 -- where the code cuts: counted from the end, and no further than to the first digit
 place : (n back : ℕ) → 2 ≤ n → min n (max 2 (n - back)) ≡ 2 + (n - 2 - back)

@@ -6,7 +6,7 @@ use mathlib.Core.List.{List, _++_}
 use mathlib.Core.Logic.{⊎-elim}
 use native.Mathlib.Omega.{arith}
 use native.Mathlib.Nat.{eq-or-lt-of-le}
-use borrow.Author.Tests.{leb-true}
+use borrow.Author.Tests.{leb-true, le-leb}
 use lib.Dec.{leb, ltb, eqb}
 use lib.ListN.{length, getD, take, drop, length-append}
 use lib.Seq.{sets-eq, take-at}
@@ -25,41 +25,50 @@ use Rattle.tokens.proofs.DoorLaws.{LetThrough, ready}
 
 -- ---- the tokens of the lent list
 
--- what "well formed" says of the range of token number i
-record Ranged (text words : List ℕ) (i : ℕ) : Type 0 where
-  after : prevEnd words i ≤ startOf words i
-  forwards : startOf words i ≤ endOf words i
-  within : endOf words i ≤ length text
+-- what "well formed" says of token number i
+pub record Good (text words : List ℕ) (i : ℕ) : Type 0 where
+  pub known : ltb (kindOf words i) kinds ≡ true
+  pub after : prevEnd words i ≤ startOf words i
+  pub forwards : startOf words i ≤ endOf words i
+  pub within : endOf words i ≤ length text
+  pub eof : eofGood (eqb (i + 1) (tokenCount words)) (kindOf words i) ≡ true
+  pub contents : contentsGood text (kindOf words i) (startOf words i) (endOf words i) (extraOf words i) ≡ true
+
+-- that is all that it says
+pub good-then : (text words : List ℕ) (i : ℕ) → Good text words i → good text words i ≡ true
+unfolding good goodAfter rangeGood
+good-then text words i g = rw (g .known, le-leb _ _ (g .after), le-leb _ _ (g .forwards), le-leb _ _ (g .within), g .eof, g .contents)
 
 module _ (text words : List ℕ) (formed : WellFormed text words) where
-  ranged : (i : ℕ) → i < tokenCount words → Ranged text words i
+  pub good-at : (i : ℕ) → i < tokenCount words → Good text words i
   unfolding good goodAfter rangeGood
-  ranged i h =
+  good-at i h =
       let kind = ltb (kindOf words i) kinds in
       let first = leb (prevEnd words i) (startOf words i) in
       let second = leb (startOf words i) (endOf words i) in
       let third = leb (endOf words i) (length text) in
       let eof = eofGood (eqb (i + 1) (tokenCount words)) (kindOf words i) in
       let contents = contentsGood text (kindOf words i) (startOf words i) (endOf words i) (extraOf words i) in
-      let range : (first && second && third) ≡ true =
-      and-right kind (first && second && third)
-      (and-left (kind && (first && second && third)) eof
-      (and-left (kind && (first && second && third) && eof) contents (formed .each i h))) in
+      let upto-range = and-left (kind && (first && second && third)) eof (and-left (kind && (first && second && third) && eof) contents (formed .each i h)) in
+      let range : (first && second && third) ≡ true = and-right kind (first && second && third) upto-range in
       record {
+        known = and-left kind (first && second && third) upto-range;
         after = leb-true _ _ (and-left first second (and-left (first && second) third range));
         forwards = leb-true _ _ (and-right first second (and-left (first && second) third range));
         within = leb-true _ _ (and-right (first && second) third range);
+        eof = and-right (kind && (first && second && third)) eof (and-left (kind && (first && second && third) && eof) contents (formed .each i h));
+        contents = and-right (kind && (first && second && third) && eof) contents (formed .each i h);
       }
 
   -- a token ends before any later one starts
-  ends-before : (i j : ℕ) → i < j → j < tokenCount words → endOf words i ≤ startOf words j
+  pub ends-before : (i j : ℕ) → i < j → j < tokenCount words → endOf words i ≤ startOf words j
   unfolding prevEnd
   ends-before i zero h k = absurd (none i h)
     where
       none : (i : ℕ) → i < zero → ⊥
       none i h = omega arith
   ends-before i (suc j) h k =
-      go (λ (l : i < j). ends-before i j l (omega arith)) (ranged (suc j) k .after)
+      go (λ (l : i < j). ends-before i j l (omega arith)) (good-at (suc j) k .after)
     where
       go : (i < j → endOf words i ≤ startOf words j) → endOf words j ≤ startOf words (suc j) → endOf words i ≤ startOf words (suc j)
       go earlier next =
@@ -67,7 +76,7 @@ module _ (text words : List ℕ) (formed : WellFormed text words) where
           (λ (e : i ≡ j). rw e next)
           (λ (l : i < j).
           let one = earlier l in
-          let two = ranged j (omega arith) .forwards in
+          let two = good-at j (omega arith) .forwards in
           omega arith)
           (eq-or-lt-of-le (down i j h))
         where
@@ -90,7 +99,7 @@ module _ (text words : List ℕ) (formed : WellFormed text words) where
 
   -- a kept token starts at or before its end, and ends within the text
   pub kept-range : (p : ℕ) → p < length (keptOf words) → (at .start p ≤ at .end p) × (at .end p ≤ length text)
-  kept-range p h = let r = ranged (getD (keptOf words) p 0) (omega (arith, kept-rising words .high p h)) in (r .forwards, r .within)
+  kept-range p h = let r = good-at (getD (keptOf words) p 0) (omega (arith, kept-rising words .high p h)) in (r .forwards, r .within)
 
   -- and at or before the start of the next
   pub kept-next : (p : ℕ) → suc p < length (keptOf words) → at .end p ≤ at .start (suc p)

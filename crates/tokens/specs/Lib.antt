@@ -9,6 +9,7 @@ pub mod Push
 pub mod Token
 pub mod WellFormed
 pub mod Kept
+pub mod PutBetween
 pub mod Door
 pub mod Keep
 pub mod Place

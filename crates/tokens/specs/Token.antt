@@ -1,6 +1,6 @@
 -- A token as the grammar sees it, and how the lent words hold it: four a token, kind, start, end, extra.
-use Prim.Native.Nat.{ℕ, _+_, _-_, _*_, _/_}
-use mathlib.Core.List.{List, [], map}
+use Prim.Native.Nat.{ℕ, zero, suc, _+_, _-_, _*_, _/_}
+use mathlib.Core.List.{List, [], _∷_, map}
 use lib.ListN.{length, getD, take, drop}
 use Rattle.tokens.specs.Kind.{Eof}
 use Rattle.tokens.specs.Number.{tokenWidth}
@@ -44,6 +44,15 @@ tokenOf text words i = record { kind = kindOf words i; text = part text (startOf
 -- the view: the tokens whose numbers the kept list holds, in its order
 unfoldable pub view : List ℕ → List ℕ → List ℕ → List Token
 view text words kept = map (tokenOf text words) kept
+
+-- so many numbers from i on
+unfoldable pub numbers : ℕ → ℕ → List ℕ
+numbers i zero = []
+numbers i (suc left) = i ∷ numbers (i + 1) left
+
+-- all tokens of the lent list, white space and comments too
+abbrev pub allTokens : List ℕ → List ℕ → List Token
+allTokens text words = view text words (numbers 0 (tokenCount words))
 
 -- where the tokens of a view stand in the text, by their places: the byte at which a token starts, and the byte before which it ends. No rule looks at it: only the
 -- record of a definition has it, and what is said of that record (request [7])

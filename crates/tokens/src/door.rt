@@ -10,10 +10,10 @@ ghost use lib.Dec.{ltb, eqb};
 ghost use lib.ListN.{length};
 ghost use lib.Seq.{sets};
 ghost use Rattle.tokens.specs.Kind.{kinds, Eof};
-ghost use Rattle.tokens.specs.Token.{tokenCount};
+ghost use Rattle.tokens.specs.Token.{tokenCount, numbers};
 ghost use Rattle.tokens.specs.WellFormed.{rangeGood, eofGood, contentsGood, wholeGood, goodAfter, firstBad};
 ghost use Rattle.tokens.specs.Kept.{dropped, keptOf};
-ghost use Rattle.tokens.specs.Keep.{numbers, EofLast};
+ghost use Rattle.tokens.specs.Keep.{EofLast};
 ghost use Rattle.tokens.specs.Door.{values, door, Prepared};
 
 // What the door answers: a refusal with its cursor, or the kept count.

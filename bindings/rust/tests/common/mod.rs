@@ -228,6 +228,7 @@ fn bytes(text: &str) -> Vec<u8> {
 }
 
 /// A text and its token list.
+#[derive(Clone)]
 pub struct Source {
     pub text: Vec<u8>,
     pub tokens: Vec<u32>,
@@ -239,9 +240,9 @@ impl Source {
     }
 
     /// Adds a token.
-    pub fn put(&mut self, kind: Kind, text: &str, extra: u32) {
+    pub fn put(&mut self, kind: Kind, text: impl AsRef<[u8]>, extra: u32) {
         let start = self.length();
-        self.text.extend_from_slice(text.as_bytes());
+        self.text.extend_from_slice(text.as_ref());
         let end = self.length();
         push_token(&mut self.tokens, kind, start, end, extra);
     }

@@ -6,7 +6,7 @@ use mathlib.Core.Path.{_≡_, refl, sym, _∙_}
 use lib.ListN.{length, length-set}
 use lib.Seq.{sets}
 use borrow.Author.Needs.{needs}
-use Rattle.tokens.specs.Keep.{numbers}
+use Rattle.tokens.specs.Token.{numbers}
 use Rattle.tokens.proofs.DoorLaws.{numbers-turn, numbers-none}
 use Rattle.tokens.proofs.door.keep_all.Statement.{statement}
 use Rattle.tokens.proofs.door.keep_all.Tie as tie

@@ -1,0 +1,50 @@
+-- Request [12], "the same mistake, the same answer": the words in which its theorems are stated. They speak of two calls, and of what both were lent: `lent` to
+-- the one, which leaves `lent′`, and `lent₂` to the other, which leaves `lent₂′`.
+use Prim.Native.Nat.{ℕ, suc, _-_}
+use mathlib.Core.Path.{_≡_}
+use mathlib.Core.Bool.{Bool, true, false}
+use mathlib.Core.List.{List, map}
+use lib.ListN.{length, take, drop}
+use lib.Seq.{sets}
+use Rattle.tokens.specs.Number.{definitionWidth, statementWidth, argumentWidth}
+use Rattle.tokens.specs.Token.{Token, Positions}
+use Rattle.tokens.specs.Kept.{keptOf}
+use Rattle.grammar.specs.Facts.{All, HasWords}
+use Rattle.grammar.specs.Call.{filled}
+use Rattle.grammar.specs.TextRanges.{placed}
+
+-- the same tokens, in kind, text and extra, stand in both lists from place p to place q inclusive
+abbrev pub Agree : ℕ → ℕ → List Token → List Token → Type 0
+Agree p q kept other = take (suc q - p) (drop p kept) ≡ take (suc q - p) (drop p other)
+
+-- something lent, after both calls: turned away before they read, each is as it was lent; else what Same says
+pub record AfterBoth (away : Bool) (Same : List ℕ → List ℕ → List ℕ → List ℕ → Type 0) (lent lent₂ lent′ lent₂′ : List ℕ) : Type 0 where
+  pub unchanged : away ≡ true → (lent′ ≡ lent) × (lent₂′ ≡ lent₂)
+  pub same : away ≡ false → Same lent lent₂ lent′ lent₂′
+
+-- each kept list has the numbers of its own list's kept tokens, and behind them what stood there
+pub record OwnNumbers (words words₂ lent lent₂ lent′ lent₂′ : List ℕ) : Type 0 where
+  pub first : lent′ ≡ sets lent 0 (keptOf words)
+  pub second : lent₂′ ≡ sets lent₂ 0 (keptOf words₂)
+
+-- both tables hold the same records, `count` of them and `width` words each, followed by zeros; in the one they stand as `put` makes them, in the other as `put₂` does
+pub record SameRecords (put put₂ : List ℕ → List ℕ) (count width : ℕ) (lent lent₂ lent′ lent₂′ : List ℕ) : Type 0 where
+  pub records : List (List ℕ)
+  pub as-many : length records ≡ count
+  pub wide : All (HasWords width) records
+  pub first : lent′ ≡ filled (length lent) (map put records)
+  pub second : lent₂′ ≡ filled (length lent₂) (map put₂ records)
+
+-- definition records but for their last two words; those are where the tokens of each list stand in its own text
+abbrev pub SameDefinitions : Positions → Positions → ℕ → List ℕ → List ℕ → List ℕ → List ℕ → Type 0
+SameDefinitions pos pos₂ count = SameRecords (placed pos) (placed pos₂) count (definitionWidth - 2)
+
+-- a record as it is
+abbrev pub asIs : List ℕ → List ℕ
+asIs words = words
+
+abbrev pub SameStatements : ℕ → List ℕ → List ℕ → List ℕ → List ℕ → Type 0
+SameStatements count = SameRecords asIs asIs count statementWidth
+
+abbrev pub SameArguments : ℕ → List ℕ → List ℕ → List ℕ → List ℕ → Type 0
+SameArguments count = SameRecords asIs asIs count argumentWidth
