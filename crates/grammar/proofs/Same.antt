@@ -196,7 +196,7 @@ module _ {c c₂ : ℕ} (same : c ≡ c₂) {count : ℕ} {lent lent₂ lent′ 
       → length (written c (recordsOf (definitionRecords pos 0 0) x)) ≡ count
       → AfterBoth (turnedAway c) (SameDefinitions pos pos₂ count) lent lent₂ lent′ lent₂′
   same-definitions pos pos₂ x x₂ e is is₂ many =
-      same-records c (placed pos) (placed pos₂) count 12 (recordsOf (definitionRecords pos 0 0) x) (recordsOf (definitionRecords pos₂ 0 0) x₂) (unplaced x) is (is₂ ∙ rw same)
+      same-records c (placed pos) (placed pos₂) count _ (recordsOf (definitionRecords pos 0 0) x) (recordsOf (definitionRecords pos₂ 0 0) x₂) (unplaced x) is (is₂ ∙ rw same)
       (definitions-placed pos x) (rw e (definitions-placed pos₂ x₂)) (unplaced-wide x) (as-many-placed (eqb c 0) ∙ many)
     where
       as-many-placed : (b : Bool) → length (cond b (unplaced x) []) ≡ length (cond b (recordsOf (definitionRecords pos 0 0) x) [])
