@@ -23,10 +23,11 @@
  * - Otherwise the first words of the kept list hold the numbers of the tokens that are neither Whitespace nor Comment, in order,
  *   and its other words are untouched. The tables hold the records followed by zeros; after a refusal, only zeros.
  * - A place counts kept tokens from 0: place p is the token whose four words start at tokens[4 * kept[p]]. Ends are exclusive.
- * - In a well-formed list white space and comments, put in or taken out, change no answer, and no word of a table but the last two
- *   of a definition's record.
- * - After 1 to 13, 21 and 22 number, cursor, type and size depend on the kept tokens up to the cursor alone, for a body on those
- *   from its start on: what stands behind changes none of them. 20 depends on its macro's tokens up to the brace as well.
+ * - White space and comments, put in or taken out, change no answer, and no word of a table but the last two of a definition's
+ *   record, as long as the list stays well formed and as many words are lent.
+ * - After 1 to 13, 21 and 22 number, cursor, type and size are those of the kept tokens up to the one at the cursor, for a body
+ *   from its start on, in one mode. What stands behind changes none of them, as long as the list is well formed (else 30) and the
+ *   kept list long enough (else 35). 20 depends on its macro's tokens up to the brace as well.
  */
 #ifndef SIMMEROTTER_H
 #define SIMMEROTTER_H

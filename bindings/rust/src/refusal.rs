@@ -223,9 +223,9 @@ impl fmt::Display for Refusal {
 
 /// A refusal, its cursor, and for a type's name that type.
 ///
-/// In a well-formed list white space and comments change none of the three. Where the cursor is a place, neither do other tokens
-/// behind it or, for a body, before its start; [`Refusal::RepeatedName`] alone depends on tokens behind its cursor too, those of
-/// its macro up to the brace.
+/// As long as the list stays well formed, white space and comments change none of the three. Where the cursor is a place, neither
+/// do other tokens behind it or, for a body, as many others before its start; [`Refusal::RepeatedName`] alone depends on tokens
+/// behind its cursor too, those of its macro up to the brace.
 #[derive(Clone, Copy, Debug, PartialEq, Eq, Hash)]
 pub struct Refused {
     /// Why.

@@ -118,25 +118,25 @@ abbrev pub written : ℕ → List (List ℕ) → List (List ℕ)
 written c rs = cond (eqb c 0) rs []
 
 -- tables, where each has what it writes of the same records
-same-records : (c : ℕ) {lent lent₂ lent′ lent₂′ : List ℕ} (put put₂ : List ℕ → List ℕ) (count width : ℕ) (rs rs₂ base : List (List ℕ))
+same-records : (c : ℕ) {lent lent₂ lent′ lent₂′ : List ℕ} (whole whole₂ : List ℕ → List ℕ) (count width : ℕ) (rs rs₂ base : List (List ℕ))
     → lent′ ≡ heldAfter c rs lent
     → lent₂′ ≡ heldAfter c rs₂ lent₂
-    → rs ≡ map put base
-    → rs₂ ≡ map put₂ base
+    → rs ≡ map whole base
+    → rs₂ ≡ map whole₂ base
     → All (HasWords width) base
     → length (written c base) ≡ count
-    → AfterBoth (turnedAway c) (SameRecords put put₂ count width) lent lent₂ lent′ lent₂′
+    → AfterBoth (turnedAway c) (SameRecords whole whole₂ count width) lent lent₂ lent′ lent₂′
 unfolding heldAfter
-same-records c {lent} {lent₂} put put₂ count width rs rs₂ base is is₂ e e₂ wide many =
+same-records c {lent} {lent₂} whole whole₂ count width rs rs₂ base is is₂ e e₂ wide many =
     record {
       unchanged = λ t. (is ∙ rw t, is₂ ∙ rw t);
-      same = λ t. record { records = written c base; as-many = many; wide = all (eqb c 0); first = is ∙ rw t (holds put rs lent e (eqb c 0)); second = is₂ ∙ rw t (holds put₂ rs₂ lent₂ e₂ (eqb c 0)) };
+      same = λ t. record { parts = written c base; as-many = many; wide = all (eqb c 0); first = is ∙ rw t (holds whole rs lent e (eqb c 0)); second = is₂ ∙ rw t (holds whole₂ rs₂ lent₂ e₂ (eqb c 0)) };
     }
   where
-    holds : (put : List ℕ → List ℕ) (rs : List (List ℕ)) (lent : List ℕ) → rs ≡ map put base → (b : Bool)
-        → cond b (filled (length lent) rs) (filled (length lent) []) ≡ filled (length lent) (map put (cond b base []))
-    holds put rs lent e true = ap (filled (length lent)) e
-    holds put rs lent e false = refl
+    holds : (whole : List ℕ → List ℕ) (rs : List (List ℕ)) (lent : List ℕ) → rs ≡ map whole base → (b : Bool)
+        → cond b (filled (length lent) rs) (filled (length lent) []) ≡ filled (length lent) (map whole (cond b base []))
+    holds whole rs lent e true = ap (filled (length lent)) e
+    holds whole rs lent e false = refl
 
     all : (b : Bool) → All (HasWords width) (cond b base [])
     all true = wide
@@ -144,7 +144,7 @@ same-records c {lent} {lent₂} put put₂ count width rs rs₂ base is is₂ e 
 
 -- of one length they have the same words
 pub same-words : {count width : ℕ} {lent lent₂ lent′ lent₂′ : List ℕ} → length lent ≡ length lent₂ → SameRecords asIs asIs count width lent lent₂ lent′ lent₂′ → lent′ ≡ lent₂′
-same-words long same = same .first ∙ ap (λ (n : ℕ). filled n (map asIs (same .records))) long ∙ sym (same .second)
+same-words long same = same .first ∙ ap (λ (n : ℕ). filled n (map asIs (same .parts))) long ∙ sym (same .second)
 
 -- ---- the records of an answer
 

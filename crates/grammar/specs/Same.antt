@@ -13,7 +13,7 @@ use Rattle.grammar.specs.Facts.{All, HasWords}
 use Rattle.grammar.specs.Call.{filled}
 use Rattle.grammar.specs.TextRanges.{placed}
 
--- the same tokens, in kind, text and extra, stand in both lists from place p to place q inclusive
+-- the same tokens, in kind, text and extra, stand in both lists from place p to place q inclusive; if the one has a token at a place of these, so has the other
 abbrev pub Agree : ℕ → ℕ → List Token → List Token → Type 0
 Agree p q kept other = take (suc q - p) (drop p kept) ≡ take (suc q - p) (drop p other)
 
@@ -27,19 +27,19 @@ pub record OwnNumbers (words words₂ lent lent₂ lent′ lent₂′ : List ℕ
   pub first : lent′ ≡ sets lent 0 (keptOf words)
   pub second : lent₂′ ≡ sets lent₂ 0 (keptOf words₂)
 
--- both tables hold the same records, `count` of them and `width` words each, followed by zeros; in the one they stand as `put` makes them, in the other as `put₂` does
-pub record SameRecords (put put₂ : List ℕ → List ℕ) (count width : ℕ) (lent lent₂ lent′ lent₂′ : List ℕ) : Type 0 where
-  pub records : List (List ℕ)
-  pub as-many : length records ≡ count
-  pub wide : All (HasWords width) records
-  pub first : lent′ ≡ filled (length lent) (map put records)
-  pub second : lent₂′ ≡ filled (length lent₂) (map put₂ records)
+-- both tables are made of the same `count` lists of `width` words: of each `whole` makes the record in the one table, `whole₂` that in the other; zeros follow
+pub record SameRecords (whole whole₂ : List ℕ → List ℕ) (count width : ℕ) (lent lent₂ lent′ lent₂′ : List ℕ) : Type 0 where
+  pub parts : List (List ℕ)
+  pub as-many : length parts ≡ count
+  pub wide : All (HasWords width) parts
+  pub first : lent′ ≡ filled (length lent) (map whole parts)
+  pub second : lent₂′ ≡ filled (length lent₂) (map whole₂ parts)
 
 -- definition records but for their last two words; those are where the tokens of each list stand in its own text
 abbrev pub SameDefinitions : Positions → Positions → ℕ → List ℕ → List ℕ → List ℕ → List ℕ → Type 0
 SameDefinitions pos pos₂ count = SameRecords (placed pos) (placed pos₂) count (definitionWidth - 2)
 
--- a record as it is
+-- statement and argument records as they are
 abbrev pub asIs : List ℕ → List ℕ
 asIs words = words
 

@@ -22,7 +22,7 @@ startByte = definitionWord 12
 abbrev pub endByte : List ℕ → ℕ → ℕ
 endByte = definitionWord 13
 
--- a definition record without its last two words, and with them: where the first token of its range starts and where the last one ends
+-- of a definition record's first 12 words the whole record: behind them where the token at its first place starts, and where the one before its end place ends
 abbrev pub placed : Positions → List ℕ → List ℕ
 placed pos words = words ++ (pos .start (getD words 2 0) ∷ pos .end (getD words 3 0 - 1) ∷ [])
 

@@ -42,7 +42,7 @@ module _ {mode edition : ℕ} {text words : List ℕ} {start : ℕ} {kept statem
     {edition₂ : ℕ} {text₂ words₂ kept₂ statements₂ arguments₂ : List ℕ} {r₂ : Body} {kept₂′ statements₂′ arguments₂′ : List ℕ}
     (call : BodyCall mode edition text words start kept statements arguments r kept′ statements′ arguments′)
     (other : BodyCall mode edition₂ text₂ words₂ start kept₂ statements₂ arguments₂ r₂ kept₂′ statements₂′ arguments₂′) where
-  -- the one is refused with a number of the reading, that is one of 1 to 13 or 22. The other has the same edition or one that there is, a well-formed list, a kept list
+  -- the one is refused with a number of the reading, that is one of 1 to 13 or 22. The other has the same edition or one that there is (the first one's is, for it was read), a well-formed list, a kept list
   -- long enough, and the same tokens from the start to the cursor: it gets the same answer, number, cursor, type and size, and its tables are zero
   pub call-same-refusal : (c q : ℕ) (told : ℕ × ℕ) → values r ≡ refusalOf c q told → ReadingNumber c
       → (isEdition edition ≡ true → isEdition edition₂ ≡ true)

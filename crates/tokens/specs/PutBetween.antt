@@ -9,8 +9,8 @@ use Rattle.tokens.specs.Token.{Token, tokenCount, kindOf, startOf, endOf
 use Rattle.tokens.specs.WellFormed.{prevEnd}
 use Rattle.tokens.specs.Kept.{dropped}
 
--- the second list is the first with white space and comments put between its tokens or taken out; one that is another in the second is taken out and put. Tokens are
--- compared by kind, text and extra, not by where they stand
+-- the second list is the first with white space and comments put between its tokens, before the first one too, or taken out; one with another text counts as taken out
+-- and put. Tokens are compared by kind, text and extra, not by where they stand
 pub data PutBetween : List Token → List Token → Type 0 where
   -- no token is left in either
   done : PutBetween [] []
@@ -25,7 +25,7 @@ pub data PutBetween : List Token → List Token → Type 0 where
 abbrev pub fieldsOf : List ℕ → ℕ → List ℕ
 fieldsOf words i = kindOf words i ∷ startOf words i ∷ endOf words i ∷ extraOf words i ∷ []
 
--- one put by an editor: the bytes `more` stand in the text at byte b, behind the token before number i and before that one; the list has a token for them, white
+-- one token put into the text: the bytes `more` stand there at byte b, behind the token before number i and before token number i; the list has a token for them, white
 -- space or a comment; and what stood behind them has moved on by as many bytes
 pub record PutAt (text words : List ℕ) (i b : ℕ) (more text₂ words₂ : List ℕ) : Type 0 where
   pub inside : i < tokenCount words
