@@ -102,11 +102,11 @@ module _ {mode : ℕ} {text words kept definitions statements arguments : List �
       (reading-stays (rulesOf mode) (keptTokens text words) (length definitions) (length statements) (length arguments))
 
   -- how many records it has written; and 30 is not for a well-formed list
-  pub record Tells : Type 0 where
-    pub definitionsMany : length (written (numberOf r) (recordsOf (definitionRecords (keptPositions words) 0 0) reading)) ≡ getD (values r) 2 0
-    pub statementsMany : length (written (numberOf r) (recordsOf (fileStatements 0 0) reading)) ≡ getD (values r) 3 0
-    pub argumentsMany : length (written (numberOf r) (recordsOf fileArgumentRecords reading)) ≡ getD (values r) 4 0
-    pub formed : WellFormed text words → ¬ (numberOf r ≡ number.NotWellFormed)
+  record Tells : Type 0 where
+    definitionsMany : length (written (numberOf r) (recordsOf (definitionRecords (keptPositions words) 0 0) reading)) ≡ getD (values r) 2 0
+    statementsMany : length (written (numberOf r) (recordsOf (fileStatements 0 0) reading)) ≡ getD (values r) 3 0
+    argumentsMany : length (written (numberOf r) (recordsOf fileArgumentRecords reading)) ≡ getD (values r) 4 0
+    formed : WellFormed text words → ¬ (numberOf r ≡ number.NotWellFormed)
 
   tells : Tells
   tells = go (values r) refl (file-call-says call)
@@ -128,9 +128,9 @@ module _ {mode : ℕ} {text words kept definitions statements arguments : List �
           record { definitionsMany = rw (is, reads) (many .0); statementsMany = rw (is, reads) (many .1); argumentsMany = rw (is, reads) (many .2); formed = rw is (λ f e. omega arith) }
 
   -- it was let through and had room: the answer is the reading's
-  pub record Had : Type 0 where
-    pub through : Through (isMode mode ≡ true) text words 0 kept
-    pub answers : values r ≡ fileNumbers (keptTokens text words) reading
+  record Had : Type 0 where
+    through : Through (isMode mode ≡ true) text words 0 kept
+    answers : values r ≡ fileNumbers (keptTokens text words) reading
 
   had : numberOf r < number.NotWellFormed → Had
   had small = go (values r) refl (file-call-says call)
@@ -164,50 +164,50 @@ module _ {mode : ℕ} {text words kept definitions statements arguments : List �
   abbrev pub SameWords : Type 0
   SameWords = turnedAway (numberOf r) ≡ false → (statements′ ≡ statements₂′) × (arguments′ ≡ arguments₂′)
 
-  -- both lists well formed
-  module _ (formed : WellFormed text words) (formed₂ : WellFormed text₂ words₂) where
-    -- the same kept tokens, the same answer and the same number at the entrance
-    alike : keptTokens text words ≡ keptTokens text₂ words₂ → r ≡ r₂ → entrance call .0 ≡ entrance other .0 → Alike
-    alike agree same said =
-        let wide = file-as-wide (keptPositions words) 0 0 in
-        record {
-          answer = same;
-          formed = tells call .formed formed;
-          list = own-numbers (numberOf r) words words₂ (entrance call .0) (away call) (call .list) (other .list ∙ ap (λ (c : ℕ). keptAfter c words₂ kept₂) (sym said));
-          definitionsHold = same-definitions (ap numberOf same) (keptPositions words) (keptPositions words₂) (reading call) (reading other) (rw agree) (call .definitionsHold) (other .definitionsHold) (tells call .definitionsMany);
-          statementsHold = same-table (ap numberOf same) (fileStatements 0 0) (reading call) (reading other) (rw agree) (λ ds. wide ds .1) (call .statementsHold) (other .statementsHold) (tells call .statementsMany);
-          argumentsHold = same-table (ap numberOf same) fileArgumentRecords (reading call) (reading other) (rw agree) (λ ds. wide ds .2) (call .argumentsHold) (other .argumentsHold) (tells call .argumentsMany);
-        }
+  -- a well-formed list, the same kept tokens, the same answer and the same number at the entrance
+  alike : WellFormed text words → keptTokens text words ≡ keptTokens text₂ words₂ → r ≡ r₂ → entrance call .0 ≡ entrance other .0 → Alike
+  alike formed agree same said =
+      let wide = file-as-wide (keptPositions words) 0 0 in
+      record {
+        answer = same;
+        formed = tells call .formed formed;
+        list = own-numbers (numberOf r) words words₂ (entrance call .0) (away call) (call .list) (other .list ∙ ap (λ (c : ℕ). keptAfter c words₂ kept₂) (sym said));
+        definitionsHold = same-definitions (ap numberOf same) (keptPositions words) (keptPositions words₂) (reading call) (reading other) (rw agree) (call .definitionsHold) (other .definitionsHold) (tells call .definitionsMany);
+        statementsHold = same-table (ap numberOf same) (fileStatements 0 0) (reading call) (reading other) (rw agree) (λ ds. wide ds .1) (call .statementsHold) (other .statementsHold) (tells call .statementsMany);
+        argumentsHold = same-table (ap numberOf same) fileArgumentRecords (reading call) (reading other) (rw agree) (λ ds. wide ds .2) (call .argumentsHold) (other .argumentsHold) (tells call .argumentsMany);
+      }
 
-    -- lent lists of the same lengths, whatever stood in them
-    module _ (room : length kept ≡ length kept₂) (room-d : length definitions ≡ length definitions₂) (room-s : length statements ≡ length statements₂) (room-a : length arguments ≡ length arguments₂) where
-      -- the kept tokens are the same throughout
-      pub file-call-same-tokens : keptTokens text words ≡ keptTokens text₂ words₂ → Alike × SameWords
-      file-call-same-tokens agree =
-          let said : entrance call ≡ entrance other = ap (λ (d : ℕ × ℕ). chosen (isMode mode) number.UnknownMode d) (same-door text words text₂ words₂ 0 formed formed₂ agree room) in
-          let numbers : values r ≡ values r₂ = call .answer ∙ rw (said, agree, room-d, room-s, room-a) (sym (other .answer)) in
-          let both = alike agree (one-file-answer r r₂ (call .own) (other .own) numbers) (ap (λ (d : ℕ × ℕ). d .0) said) in
-          (both, (λ e. (same-words room-s (both .statementsHold .same e), same-words room-a (both .argumentsHold .same e))))
+  -- both lists well formed, and lent lists of the same lengths, whatever stood in them
+  module _ (formed : WellFormed text words) (formed₂ : WellFormed text₂ words₂)
+      (room : length kept ≡ length kept₂) (room-d : length definitions ≡ length definitions₂) (room-s : length statements ≡ length statements₂) (room-a : length arguments ≡ length arguments₂) where
+    -- the kept tokens are the same throughout
+    pub file-call-same-tokens : keptTokens text words ≡ keptTokens text₂ words₂ → Alike × SameWords
+    file-call-same-tokens agree =
+        let said : entrance call ≡ entrance other = ap (λ (d : ℕ × ℕ). chosen (isMode mode) number.UnknownMode d) (same-door text words text₂ words₂ 0 formed formed₂ agree room) in
+        let numbers : values r ≡ values r₂ = call .answer ∙ rw (said, agree, room-d, room-s, room-a) (sym (other .answer)) in
+        let both = alike formed agree (one-file-answer r r₂ (call .own) (other .own) numbers) (ap (λ (d : ℕ × ℕ). d .0) said) in
+        (both, (λ e. (same-words room-s (both .statementsHold .same e), same-words room-a (both .argumentsHold .same e))))
 
-      -- white space and comments are put between the tokens of a list, or taken out
-      pub file-call-put-between : PutBetween (allTokens text words) (allTokens text₂ words₂) → Alike × SameWords
-      file-call-put-between more = file-call-same-tokens (put-between text words text₂ words₂ more)
+    -- white space and comments are put between the tokens of a list, or taken out
+    pub file-call-put-between : PutBetween (allTokens text words) (allTokens text₂ words₂) → Alike × SameWords
+    file-call-put-between more = file-call-same-tokens (put-between text words text₂ words₂ more)
 
-    -- lent lists of any lengths, where the one call had room, its number being below 30, and the other has room for its kept tokens and for as many records
-    pub file-call-same-with-room : keptTokens text words ≡ keptTokens text₂ words₂
-        → numberOf r < number.NotWellFormed
-        → length (keptOf words₂) ≤ length kept₂
-        → getD (values r) 2 0 ≤ length definitions₂ / definitionWidth
-        → getD (values r) 3 0 ≤ length statements₂ / statementWidth
-        → getD (values r) 4 0 ≤ length arguments₂ / argumentWidth
-        → Alike
-    file-call-same-with-room agree small enough room-d room-s room-a =
-        let ts = keptTokens text₂ words₂ in
-        let h = had call small in
-        let l = h .through .list in
-        let numbers : values r ≡ fileNumbers ts (reading other) = h .answers ∙ rw agree in
-        let many = file-counted ts (keptPositions words₂) (reading other) in
-        let word : (i : ℕ) → getD (fileNumbers ts (reading other)) i 0 ≡ getD (values r) i 0 = λ i. ap (λ (v : List ℕ). getD v i 0) (sym numbers) in
-        let told = with-room (h .through .known) formed₂ enough (fileOutcome ts (keptPositions words₂) (reading other)) refl (rw (many .0, word 2) room-d) (rw (many .1, word 3) room-s) (rw (many .2, word 4) room-a) other in
-        alike agree (one-file-answer r r₂ (call .own) (other .own) (numbers ∙ sym (told .answer)))
-        (rw (h .through .known, let-through text words 0 (length kept) formed (l .room-enough) (l .inside), let-through text₂ words₂ 0 (length kept₂) formed₂ enough (kept-not-empty text₂ words₂ formed₂)))
+  -- lent lists of any lengths, where the one call had room, its number being below 30, and the other has room for its kept tokens and for as many records
+  pub file-call-same-with-room : WellFormed text₂ words₂
+      → keptTokens text words ≡ keptTokens text₂ words₂
+      → numberOf r < number.NotWellFormed
+      → length (keptOf words₂) ≤ length kept₂
+      → getD (values r) 2 0 ≤ length definitions₂ / definitionWidth
+      → getD (values r) 3 0 ≤ length statements₂ / statementWidth
+      → getD (values r) 4 0 ≤ length arguments₂ / argumentWidth
+      → Alike
+  file-call-same-with-room formed₂ agree small enough room-d room-s room-a =
+      let ts = keptTokens text₂ words₂ in
+      let h = had call small in
+      let l = h .through .list in
+      let numbers : values r ≡ fileNumbers ts (reading other) = h .answers ∙ rw agree in
+      let many = file-counted ts (keptPositions words₂) (reading other) in
+      let word : (i : ℕ) → getD (fileNumbers ts (reading other)) i 0 ≡ getD (values r) i 0 = λ i. ap (λ (v : List ℕ). getD v i 0) (sym numbers) in
+      let told = with-room (h .through .known) formed₂ enough (fileOutcome ts (keptPositions words₂) (reading other)) refl (rw (many .0, word 2) room-d) (rw (many .1, word 3) room-s) (rw (many .2, word 4) room-a) other in
+      alike (l .formed) agree (one-file-answer r r₂ (call .own) (other .own) (numbers ∙ sym (told .answer)))
+      (rw (h .through .known, let-through text words 0 (length kept) (l .formed) (l .room-enough) (l .inside), let-through text₂ words₂ 0 (length kept₂) formed₂ enough (kept-not-empty text₂ words₂ formed₂)))

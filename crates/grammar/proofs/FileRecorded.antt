@@ -3,13 +3,13 @@ use Prim.Native.Nat.{ℕ, suc, _+_}
 use native.Mathlib.Omega.{arith}
 use mathlib.Core.Path.{_≡_, refl, ap}
 use mathlib.Core.List.{List, [], _∷_, map}
-use lib.ListN.{length, length-append, length-map}
+use lib.ListN.{length, getD, length-append, length-map}
 use Rattle.tokens.specs.Token.{Positions}
 use Rattle.tokens.specs.Number.{definitionWidth, statementWidth, argumentWidth}
 use Rattle.grammar.specs.Reading.{Argument}
 use Rattle.grammar.specs.Records.{argumentRecord}
 use Rattle.grammar.specs.Facts.{All, HasWords}
-use Rattle.grammar.specs.FileReading.{Value, literalAt, pointerAt, TableSort, TableEntry, Form, anImport, aFunction, anEvent, aDefinedConstant, anError, aMacro, aTable, Definition}
+use Rattle.grammar.specs.FileReading.{literalAt, pointerAt, TableSort, TableEntry, Form, anImport, aFunction, anEvent, aDefinedConstant, anError, aMacro, aTable, Definition}
 use Rattle.grammar.specs.FileRecords.{formArguments, entryRecords, formCount, formStatements, formWords, behindDeclared, textRange, definitionRecord, definitionRecords, fileStatements, fileArguments, fileArgumentRecords, fileStatementCount}
 use Rattle.grammar.proofs.Lists.{all-append}
 use Rattle.grammar.proofs.Recorded.{as-many, as-wide}
@@ -51,24 +51,22 @@ pub file-as-many : (pos : Positions) (i a : ℕ) (ds : List Definition)
 unfolding fileArgumentRecords
 file-as-many pos i a ds = (definitions-many pos i a ds, statements-many i a ds, length-map (fileArguments ds) argumentRecord)
 
-value-wide : (v : Value) → length (formWords (aDefinedConstant v)) ≡ 2
-value-wide (literalAt p) = refl
-value-wide (pointerAt p) = refl
-
-words-wide : (f : Form) → length (formWords f) ≡ 2
-words-wide anImport = refl
-words-wide (aFunction ins ty outs) = refl
-words-wide (anEvent args) = refl
-words-wide (aDefinedConstant v) = value-wide v
-words-wide (anError args) = refl
-words-wide (aMacro sort args tk rt r) = refl
-words-wide (aTable sort es) = refl
+-- A and B are two words
+pub two-words : (f : Form) → formWords f ≡ getD (formWords f) 0 0 ∷ getD (formWords f) 1 0 ∷ []
+two-words anImport = refl
+two-words (aFunction ins ty outs) = refl
+two-words (anEvent args) = refl
+two-words (aDefinedConstant (literalAt p)) = refl
+two-words (aDefinedConstant (pointerAt p)) = refl
+two-words (anError args) = refl
+two-words (aMacro sort args tk rt r) = refl
+two-words (aTable sort es) = refl
 
 definitions-wide : (pos : Positions) (i a : ℕ) (ds : List Definition) → All (HasWords definitionWidth) (definitionRecords pos i a ds)
 unfolding definitionRecords definitionRecord
 definitions-wide pos i a [] = tt
 definitions-wide pos i a (d ∷ ds) = (
-  omega (arith, words-wide (d .form), length-append (formWords (d .form)) (textRange pos d)),
+  omega (arith, ap length (two-words (d .form)), length-append (formWords (d .form)) (textRange pos d)),
   definitions-wide pos (i + formCount (d .form)) (a + length (formArguments (d .form))) ds,
 )
 

@@ -18,39 +18,28 @@ use Rattle.grammar.specs.Rules.{isMode}
 use Rattle.grammar.specs.PlainLength.{isEdition}
 use Rattle.grammar.specs.Result.{Answer, read, refused}
 use Rattle.grammar.specs.Facts.{All, HasWords}
-use Rattle.grammar.specs.FileReading.{literalAt, pointerAt, Form, anImport, aFunction, anEvent, aDefinedConstant, anError, aMacro, aTable, Definition}
-use Rattle.grammar.specs.FileRecords.{formWords, definitionRecord, definitionRecords, fileStatements, fileArgumentRecords}
+use Rattle.grammar.specs.FileReading.{Definition}
+use Rattle.grammar.specs.FileRecords.{definitionRecord, definitionRecords, fileStatements, fileArgumentRecords}
 use Rattle.grammar.specs.Call.{refusal, bodyNumbers, fileNumbers, chosen, fileEntrance, bodyEntrance, afterDoor, recordsOf, filled, turnedAway, heldAfter}
-use Rattle.grammar.specs.TextRanges.{placed}
+use Rattle.grammar.specs.TextRanges.{unplacedWidth, placed}
 use Rattle.grammar.specs.Same.{AfterBoth, OwnNumbers, SameRecords, SameDefinitions, asIs}
 use Rattle.grammar.proofs.Recorded.{as-many}
-use Rattle.grammar.proofs.FileRecorded.{file-as-many}
+use Rattle.grammar.proofs.FileRecorded.{file-as-many, two-words}
 
 -- ---- definition records at any positions
-
--- A and B are two words
-two-words : (f : Form) → formWords f ≡ getD (formWords f) 0 0 ∷ getD (formWords f) 1 0 ∷ []
-two-words anImport = refl
-two-words (aFunction inputs type outputs) = refl
-two-words (anEvent args) = refl
-two-words (aDefinedConstant (literalAt p)) = refl
-two-words (aDefinedConstant (pointerAt p)) = refl
-two-words (anError args) = refl
-two-words (aMacro sort args takes returns r) = refl
-two-words (aTable sort es) = refl
 
 -- tokens that stand nowhere: the records at these positions, without their last two words, are those at any
 abbrev nowhere : Positions
 nowhere = record { start = λ p. 0; end = λ p. 0 }
 
 abbrev placeless : List (List ℕ) → List (List ℕ)
-placeless rs = map (take 12) rs
+placeless rs = map (take unplacedWidth) rs
 
-record-placed : (pos : Positions) (i a : ℕ) (d : Definition) → definitionRecord pos i a d ≡ placed pos (take 12 (definitionRecord nowhere i a d))
+record-placed : (pos : Positions) (i a : ℕ) (d : Definition) → definitionRecord pos i a d ≡ placed pos (take unplacedWidth (definitionRecord nowhere i a d))
 unfolding definitionRecord
 record-placed pos i a d = rw (two-words (d .form))
 
-record-wide : (i a : ℕ) (d : Definition) → HasWords 12 (take 12 (definitionRecord nowhere i a d))
+record-wide : (i a : ℕ) (d : Definition) → HasWords unplacedWidth (take unplacedWidth (definitionRecord nowhere i a d))
 unfolding definitionRecord
 record-wide i a d = rw (two-words (d .form))
 
@@ -59,7 +48,7 @@ unfolding definitionRecords
 records-placed pos i a [] = refl
 records-placed pos i a (d ∷ ds) = rw (record-placed pos i a d, records-placed pos _ _ ds)
 
-records-wide : (i a : ℕ) (ds : List Definition) → All (HasWords 12) (placeless (definitionRecords nowhere i a ds))
+records-wide : (i a : ℕ) (ds : List Definition) → All (HasWords unplacedWidth) (placeless (definitionRecords nowhere i a ds))
 unfolding definitionRecords
 records-wide i a [] = tt
 records-wide i a (d ∷ ds) = (record-wide i a d, records-wide _ _ ds)
@@ -161,8 +150,8 @@ definitions-placed : (pos : Positions) (x : Answer (List Definition)) → record
 definitions-placed pos (read ds n) = records-placed pos 0 0 ds
 definitions-placed pos (refused c q) = refl
 
-unplaced-wide : (x : Answer (List Definition)) → All (HasWords 12) (unplaced x)
-unplaced-wide = records-all (HasWords 12) (λ ds. placeless (definitionRecords nowhere 0 0 ds)) (records-wide 0 0)
+unplaced-wide : (x : Answer (List Definition)) → All (HasWords unplacedWidth) (unplaced x)
+unplaced-wide = records-all (HasWords unplacedWidth) (λ ds. placeless (definitionRecords nowhere 0 0 ds)) (records-wide 0 0)
 
 -- as many as the answer says
 pub body-counted : (kept : List Token) (short : Bool) (start : ℕ) (x : Answer Reading)

@@ -6,12 +6,12 @@ use mathlib.Core.Bool.{Bool, true, false}
 use mathlib.Core.List.{List, map}
 use lib.ListN.{length, take, drop}
 use lib.Seq.{sets}
-use Rattle.tokens.specs.Number.{definitionWidth, statementWidth, argumentWidth}
+use Rattle.tokens.specs.Number.{statementWidth, argumentWidth}
 use Rattle.tokens.specs.Token.{Token, Positions}
 use Rattle.tokens.specs.Kept.{keptOf}
 use Rattle.grammar.specs.Facts.{All, HasWords}
 use Rattle.grammar.specs.Call.{filled}
-use Rattle.grammar.specs.TextRanges.{placed}
+use Rattle.grammar.specs.TextRanges.{unplacedWidth, placed}
 
 -- the same tokens, in kind, text and extra, stand in both lists from place p to place q inclusive; if the one has a token at a place of these, so has the other
 abbrev pub Agree : ℕ → ℕ → List Token → List Token → Type 0
@@ -37,7 +37,7 @@ pub record SameRecords (whole whole₂ : List ℕ → List ℕ) (count width : �
 
 -- definition records but for their last two words; those are where the tokens of each list stand in its own text
 abbrev pub SameDefinitions : Positions → Positions → ℕ → List ℕ → List ℕ → List ℕ → List ℕ → Type 0
-SameDefinitions pos pos₂ count = SameRecords (placed pos) (placed pos₂) count (definitionWidth - 2)
+SameDefinitions pos pos₂ count = SameRecords (placed pos) (placed pos₂) count unplacedWidth
 
 -- statement and argument records as they are
 abbrev pub asIs : List ℕ → List ℕ

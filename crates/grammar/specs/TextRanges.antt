@@ -3,6 +3,7 @@ use Prim.Native.Nat.{ℕ, zero, suc, _-_, _≤_, _<_}
 use mathlib.Core.Path.{_≡_}
 use mathlib.Core.List.{List, [], _∷_, _++_}
 use lib.ListN.{getD}
+use Rattle.tokens.specs.Number.{definitionWidth}
 use Rattle.tokens.specs.Token.{Token, part, tokenAt, Positions}
 use Rattle.grammar.specs.FileTables.{definitionWord}
 
@@ -22,7 +23,11 @@ startByte = definitionWord 12
 abbrev pub endByte : List ℕ → ℕ → ℕ
 endByte = definitionWord 13
 
--- of a definition record's first 12 words the whole record: behind them where the token at its first place starts, and where the one before its end place ends
+-- how many words of a definition record stand before those two
+abbrev pub unplacedWidth : ℕ
+unplacedWidth = definitionWidth - 2
+
+-- of these words of a record the whole record: behind them where the token at its first place starts, and where the one before its end place ends
 abbrev pub placed : Positions → List ℕ → List ℕ
 placed pos words = words ++ (pos .start (getD words 2 0) ∷ pos .end (getD words 3 0 - 1) ∷ [])
 

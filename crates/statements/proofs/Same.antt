@@ -98,10 +98,10 @@ module _ {mode edition : ℕ} {text words : List ℕ} {start : ℕ} {kept statem
       (reading-stays (rulesOf mode) (keptTokens text words) (shortZeros edition) start (length statements) (length arguments))
 
   -- how many records it has written; and 30 is not for a well-formed list
-  pub record Tells : Type 0 where
-    pub statementsMany : length (written (numberOf r) (recordsOf (statementRecords 0 0) reading)) ≡ getD (values r) 2 0
-    pub argumentsMany : length (written (numberOf r) (recordsOf argumentRecords reading)) ≡ getD (values r) 3 0
-    pub formed : WellFormed text words → ¬ (numberOf r ≡ number.NotWellFormed)
+  record Tells : Type 0 where
+    statementsMany : length (written (numberOf r) (recordsOf (statementRecords 0 0) reading)) ≡ getD (values r) 2 0
+    argumentsMany : length (written (numberOf r) (recordsOf argumentRecords reading)) ≡ getD (values r) 3 0
+    formed : WellFormed text words → ¬ (numberOf r ≡ number.NotWellFormed)
 
   tells : Tells
   tells = go (values r) refl (call-says call)
@@ -124,9 +124,9 @@ module _ {mode edition : ℕ} {text words : List ℕ} {start : ℕ} {kept statem
           record { statementsMany = rw (is, reads) (many .0); argumentsMany = rw (is, reads) (many .1); formed = rw is (λ f e. omega arith) }
 
   -- it was let through and had room: the answer is the reading's
-  pub record Had : Type 0 where
-    pub through : Through (Named mode edition) text words start kept
-    pub answers : values r ≡ bodyNumbers (keptTokens text words) (shortZeros edition) start reading
+  record Had : Type 0 where
+    through : Through (Named mode edition) text words start kept
+    answers : values r ≡ bodyNumbers (keptTokens text words) (shortZeros edition) start reading
 
   had : numberOf r < number.NotWellFormed → Had
   had small = go (values r) refl (call-says call)
@@ -160,49 +160,49 @@ module _ {mode edition : ℕ} {text words : List ℕ} {start : ℕ} {kept statem
   abbrev pub SameWords : Type 0
   SameWords = turnedAway (numberOf r) ≡ false → (statements′ ≡ statements₂′) × (arguments′ ≡ arguments₂′)
 
-  -- both lists well formed
-  module _ (formed : WellFormed text words) (formed₂ : WellFormed text₂ words₂) where
-    -- the same kept tokens, the same answer and the same number at the entrance
-    alike : keptTokens text words ≡ keptTokens text₂ words₂ → r ≡ r₂ → entrance call .0 ≡ entrance other .0 → Alike
-    alike agree same said =
-        record {
-          answer = same;
-          formed = tells call .formed formed;
-          list = own-numbers (numberOf r) words words₂ (entrance call .0) (away call) (call .list) (other .list ∙ ap (λ (c : ℕ). keptAfter c words₂ kept₂) (sym said));
-          statementsHold = same-table (ap numberOf same) (statementRecords 0 0) (reading call) (reading other) (rw agree) (λ rd. as-wide 0 0 rd .0) (call .statementsHold) (other .statementsHold) (tells call .statementsMany);
-          argumentsHold = same-table (ap numberOf same) argumentRecords (reading call) (reading other) (rw agree) (λ rd. as-wide 0 0 rd .1) (call .argumentsHold) (other .argumentsHold) (tells call .argumentsMany);
-        }
+  -- a well-formed list, the same kept tokens, the same answer and the same number at the entrance
+  alike : WellFormed text words → keptTokens text words ≡ keptTokens text₂ words₂ → r ≡ r₂ → entrance call .0 ≡ entrance other .0 → Alike
+  alike formed agree same said =
+      record {
+        answer = same;
+        formed = tells call .formed formed;
+        list = own-numbers (numberOf r) words words₂ (entrance call .0) (away call) (call .list) (other .list ∙ ap (λ (c : ℕ). keptAfter c words₂ kept₂) (sym said));
+        statementsHold = same-table (ap numberOf same) (statementRecords 0 0) (reading call) (reading other) (rw agree) (λ rd. as-wide 0 0 rd .0) (call .statementsHold) (other .statementsHold) (tells call .statementsMany);
+        argumentsHold = same-table (ap numberOf same) argumentRecords (reading call) (reading other) (rw agree) (λ rd. as-wide 0 0 rd .1) (call .argumentsHold) (other .argumentsHold) (tells call .argumentsMany);
+      }
 
-    -- lent lists of the same lengths, whatever stood in them
-    module _ (room : length kept ≡ length kept₂) (room-s : length statements ≡ length statements₂) (room-a : length arguments ≡ length arguments₂) where
-      -- the kept tokens are the same throughout
-      pub call-same-tokens : keptTokens text words ≡ keptTokens text₂ words₂ → Alike × SameWords
-      call-same-tokens agree =
-          let said : entrance call ≡ entrance other = ap (λ (d : ℕ × ℕ). chosen (isMode mode) number.UnknownMode (chosen (isEdition edition) number.UnknownEdition d)) (same-door text words text₂ words₂ start formed formed₂ agree room) in
-          let numbers : values r ≡ values r₂ = call .answer ∙ rw (said, agree, room-s, room-a) (sym (other .answer)) in
-          let both = alike agree (one-body-answer r r₂ (call .own) (other .own) numbers) (ap (λ (d : ℕ × ℕ). d .0) said) in
-          (both, (λ e. (same-words room-s (both .statementsHold .same e), same-words room-a (both .argumentsHold .same e))))
+  -- both lists well formed, and lent lists of the same lengths, whatever stood in them
+  module _ (formed : WellFormed text words) (formed₂ : WellFormed text₂ words₂)
+      (room : length kept ≡ length kept₂) (room-s : length statements ≡ length statements₂) (room-a : length arguments ≡ length arguments₂) where
+    -- the kept tokens are the same throughout
+    pub call-same-tokens : keptTokens text words ≡ keptTokens text₂ words₂ → Alike × SameWords
+    call-same-tokens agree =
+        let said : entrance call ≡ entrance other = ap (λ (d : ℕ × ℕ). chosen (isMode mode) number.UnknownMode (chosen (isEdition edition) number.UnknownEdition d)) (same-door text words text₂ words₂ start formed formed₂ agree room) in
+        let numbers : values r ≡ values r₂ = call .answer ∙ rw (said, agree, room-s, room-a) (sym (other .answer)) in
+        let both = alike formed agree (one-body-answer r r₂ (call .own) (other .own) numbers) (ap (λ (d : ℕ × ℕ). d .0) said) in
+        (both, (λ e. (same-words room-s (both .statementsHold .same e), same-words room-a (both .argumentsHold .same e))))
 
-      -- white space and comments are put between the tokens of a list, or taken out
-      pub call-put-between : PutBetween (allTokens text words) (allTokens text₂ words₂) → Alike × SameWords
-      call-put-between more = call-same-tokens (put-between text words text₂ words₂ more)
+    -- white space and comments are put between the tokens of a list, or taken out
+    pub call-put-between : PutBetween (allTokens text words) (allTokens text₂ words₂) → Alike × SameWords
+    call-put-between more = call-same-tokens (put-between text words text₂ words₂ more)
 
-    -- lent lists of any lengths, where the one call had room, its number being below 30, and the other has room for its kept tokens and for as many records
-    pub call-same-with-room : keptTokens text words ≡ keptTokens text₂ words₂
-        → numberOf r < number.NotWellFormed
-        → length (keptOf words₂) ≤ length kept₂
-        → getD (values r) 2 0 ≤ length statements₂ / statementWidth
-        → getD (values r) 3 0 ≤ length arguments₂ / argumentWidth
-        → Alike
-    call-same-with-room agree small enough room-s room-a =
-        let ts = keptTokens text₂ words₂ in
-        let h = had call small in
-        let named = h .through .known in
-        let l = h .through .list in
-        let inside : start < length (keptOf words₂) = omega (arith, l .inside, same-count text words text₂ words₂ agree) in
-        let numbers : values r ≡ bodyNumbers ts (shortZeros edition) start (reading other) = h .answers ∙ rw agree in
-        let many = body-counted ts (shortZeros edition) start (reading other) in
-        let word : (i : ℕ) → getD (bodyNumbers ts (shortZeros edition) start (reading other)) i 0 ≡ getD (values r) i 0 = λ i. ap (λ (v : List ℕ). getD v i 0) (sym numbers) in
-        let told = with-room named formed₂ inside enough (outcome ts edition start (reading other)) refl (rw (many .0, word 2) room-s) (rw (many .1, word 3) room-a) other in
-        alike agree (one-body-answer r r₂ (call .own) (other .own) (numbers ∙ sym (told .answer)))
-        (rw (named .mode-known, named .edition-known, let-through text words start (length kept) formed (l .room-enough) (l .inside), let-through text₂ words₂ start (length kept₂) formed₂ enough inside))
+  -- lent lists of any lengths, where the one call had room, its number being below 30, and the other has room for its kept tokens and for as many records
+  pub call-same-with-room : WellFormed text₂ words₂
+      → keptTokens text words ≡ keptTokens text₂ words₂
+      → numberOf r < number.NotWellFormed
+      → length (keptOf words₂) ≤ length kept₂
+      → getD (values r) 2 0 ≤ length statements₂ / statementWidth
+      → getD (values r) 3 0 ≤ length arguments₂ / argumentWidth
+      → Alike
+  call-same-with-room formed₂ agree small enough room-s room-a =
+      let ts = keptTokens text₂ words₂ in
+      let h = had call small in
+      let named = h .through .known in
+      let l = h .through .list in
+      let inside : start < length (keptOf words₂) = omega (arith, l .inside, same-count text words text₂ words₂ agree) in
+      let numbers : values r ≡ bodyNumbers ts (shortZeros edition) start (reading other) = h .answers ∙ rw agree in
+      let many = body-counted ts (shortZeros edition) start (reading other) in
+      let word : (i : ℕ) → getD (bodyNumbers ts (shortZeros edition) start (reading other)) i 0 ≡ getD (values r) i 0 = λ i. ap (λ (v : List ℕ). getD v i 0) (sym numbers) in
+      let told = with-room named formed₂ inside enough (outcome ts edition start (reading other)) refl (rw (many .0, word 2) room-s) (rw (many .1, word 3) room-a) other in
+      alike (l .formed) agree (one-body-answer r r₂ (call .own) (other .own) (numbers ∙ sym (told .answer)))
+      (rw (named .mode-known, named .edition-known, let-through text words start (length kept) (l .formed) (l .room-enough) (l .inside), let-through text₂ words₂ start (length kept₂) formed₂ enough inside))
