@@ -227,7 +227,7 @@ module _ {text words : List ℕ} {i b : ℕ} {more text₂ words₂ : List ℕ} 
   unfolding wholeGood
   put-at-formed few-bytes few-tokens = record { whole = whole; each = each }
     where
-      even : length words % 4 ≡ 0
+      even : length words % tokenWidth ≡ 0
       even =
           let a = leb (length text) mostBytes in
           let d = eqb (length words % tokenWidth) 0 in
@@ -235,7 +235,7 @@ module _ {text words : List ℕ} {i b : ℕ} {more text₂ words₂ : List ℕ} 
           eqb-true _ _ (and-right a d (and-left (a && d) some (and-left (a && d && some) (leb (tokenCount words) mostTokens) (formed .whole))))
 
       whole : wholeGood text₂ words₂ ≡ true
-      whole = rw (le-leb _ _ few-bytes, le-leb _ _ few-tokens, lt-ltb 0 (tokenCount words₂) (omega (arith, count)), eq-eqb (length words₂ % 4) 0 (omega (arith, even, at .one-more)))
+      whole = rw (le-leb _ _ few-bytes, le-leb _ _ few-tokens, lt-ltb 0 (tokenCount words₂) (omega (arith, count)), eq-eqb (length words₂ % tokenWidth) 0 (omega (arith, even, at .one-more)))
 
       each : (j : ℕ) → j < tokenCount words₂ → good text₂ words₂ j ≡ true
       each j l =
