@@ -1,5 +1,5 @@
 -- The door's walks over the tokens, a turn at a time, and what its answers mean. Assumes nothing.
-use Prim.Native.Nat.{ℕ, zero, suc, _+_, _-_, _*_, _%_, _≤_, _<_}
+use Prim.Native.Nat.{ℕ, zero, suc, _+_, _-_, _*_, _≤_, _<_}
 use mathlib.Core.Path.{_≡_, refl, sym, ap, _∙_}
 use mathlib.Core.Bool.{Bool, true, false, cond, not, _&&_, and-true, and-false, true≢false, false≢true}
 use borrow.Author.Tests.{not-true, ltb-true, ltb-false, leb-true, eqb-true, lt-ltb, le-ltb, le-leb, eq-eqb, ne-eqb}
@@ -21,6 +21,7 @@ use Rattle.tokens.specs.Door.{values, door, keptAfter, Prepared}
 use Rattle.tokens.specs.Kept.{dropped, keptFrom, keptOf, keepUnless}
 use Rattle.tokens.specs.Keep.{EofLast}
 use Rattle.tokens.proofs.Laws.{lt-or-le, left-step, left-none, and-left, and-right}
+use Rattle.tokens.proofs.FormedLaws.{whole-says, good-says}
 
 -- ---- the first bad token
 
@@ -212,11 +213,6 @@ formed text words w h = record { whole = w; each = λ i b. first-bad text words 
 unformed : (text words : List ℕ) → firstBad text words < tokenCount words → ¬ (WellFormed text words)
 unformed text words h f = let yes-no : true ≡ false = sym (f .each (firstBad text words) h) ∙ first-bad text words .there (omega arith) in true≢false yes-no
 
-few-tokens : (text words : List ℕ) → wholeGood text words ≡ true → tokenCount words ≤ 65536
-unfolding wholeGood
-few-tokens text words e =
-    leb-true _ _ (and-right (leb (length text) 1048576 && eqb (length words % 4) 0 && ltb 0 (tokenCount words)) _ e)
-
 -- what each number of the door means: 30 is given exactly to a list that is not well formed, 35 and 31 to a well-formed one
 pub data Means (text words : List ℕ) (start room : ℕ) : ℕ × ℕ → Type 0 where
   means-30 : {at : ℕ} → ¬ (WellFormed text words) → Means text words start room (number.NotWellFormed, at)
@@ -241,7 +237,7 @@ door-means text words start room = go (wholeGood text words) refl
 
     walked : wholeGood text words ≡ true → (t : Bool) → ltb (firstBad text words) (tokenCount words) ≡ t → Means text words start room (cond t (number.NotWellFormed, firstBad text words) (cond (ltb room n) (number.KeptTooShort, n) (cond (ltb start n) (0, n) (number.StartOutside, start))))
     walked w true e = means-30 (unformed text words (ltb-true _ _ e))
-    walked w false e = roomy (formed text words w (ltb-false _ _ e)) (few-tokens text words w) (ltb room n) refl
+    walked w false e = roomy (formed text words w (ltb-false _ _ e)) (whole-says text words w .few) (ltb room n) refl
 
     go : (t : Bool) → wholeGood text words ≡ t → Means text words start room (cond t (cond (ltb (firstBad text words) (tokenCount words)) (number.NotWellFormed, firstBad text words) (cond (ltb room n) (number.KeptTooShort, n) (cond (ltb start n) (0, n) (number.StartOutside, start)))) (number.NotWellFormed, 0))
     go true e = walked e (ltb (firstBad text words) (tokenCount words)) refl
@@ -334,39 +330,25 @@ module _ (words : List ℕ) (eof : EofLast words) (i : ℕ) (h : i < tokenCount 
       (λ (more : i + 1 < tokenCount words). kept-some words (tokenCount words - (i + 1)) (i + 1) (tokenCount words - 1) (omega arith) (omega arith) (last-kept words eof (tokenCount words - 1) (omega arith)))
       (eq-or-lt-of-le (omega arith))
 
-pub some-tokens : (text words : List ℕ) → wholeGood text words ≡ true → 0 < tokenCount words
-unfolding wholeGood
-some-tokens text words e =
-    ltb-true _ _
-    (and-right (leb (length text) 1048576 && eqb (length words % 4) 0) _
-    (and-left (leb (length text) 1048576 && eqb (length words % 4) 0 && ltb 0 (tokenCount words)) _ e))
-
 -- the last token of a well-formed list is an Eof
 pub last-is-eof : (text words : List ℕ) → WellFormed text words → (i : ℕ) → i + 1 ≡ tokenCount words → kindOf words i ≡ Eof
-unfolding good goodAfter eofGood
-last-is-eof text words f i e =
-    let head = ltb (kindOf words i) kinds && rangeGood (length text) (prevEnd words i) (startOf words i) (endOf words i) in
-    let eof = eofGood (eqb (i + 1) (tokenCount words)) (kindOf words i) in
-    let test = and-right head eof (and-left (head && eof) _ (f .each i (omega arith))) in
-    eqb-true _ _ (rw (eq-eqb _ _ e) at test)
+unfolding eofGood
+last-is-eof text words f i e = eqb-true _ _ (rw (eq-eqb _ _ e) at (good-says text words i (f .each i (omega arith)) .eof))
 
 -- and no other is
 pub others-not : (text words : List ℕ) → WellFormed text words → (i : ℕ) → i + 1 < tokenCount words → 0 < kindOf words i
-unfolding good goodAfter eofGood
+unfolding eofGood
 others-not text words f i h =
-    let head = ltb (kindOf words i) kinds && rangeGood (length text) (prevEnd words i) (startOf words i) (endOf words i) in
-    let eof = eofGood (eqb (i + 1) (tokenCount words)) (kindOf words i) in
-    let test = and-right head eof (and-left (head && eof) _ (f .each i (omega arith))) in
-    not-zero (kindOf words i) (rw (ne-eqb (i + 1) (tokenCount words) (λ e. omega arith)) at test)
+    not-zero (kindOf words i) (rw (ne-eqb (i + 1) (tokenCount words) (λ e. omega arith)) at (good-says text words i (f .each i (omega arith)) .eof))
 
 pub eof-last : (text words : List ℕ) → WellFormed text words → EofLast words
-eof-last text words f = record { some = some-tokens text words (f .whole); last = last-is-eof text words f; others = others-not text words f }
+eof-last text words f = record { some = whole-says text words (f .whole) .some; last = last-is-eof text words f; others = others-not text words f }
 
 -- it is kept, so that a file, read from start 0, never gets 31
 pub kept-not-empty : (text words : List ℕ) → WellFormed text words → 0 < length (keptOf words)
 unfolding keptOf dropped
 kept-not-empty text words f =
-    let some = some-tokens text words (f .whole) in
+    let some = whole-says text words (f .whole) .some in
     let last = last-is-eof text words f (tokenCount words - 1) (omega arith) in
     kept-some words (tokenCount words) 0 (tokenCount words - 1) (omega arith) (omega arith) (rw last)
 
@@ -467,13 +449,7 @@ pub record Walked (text words : List ℕ) (count prev at : ℕ) : Type 0 where
 
 -- the words of a list that is good as a whole are four a token
 whole-words : (text words : List ℕ) → wholeGood text words ≡ true → length words ≡ tokenCount words * 4
-unfolding wholeGood
-whole-words text words e =
-    let size = leb (length text) 1048576 in
-    let four = eqb (length words % 4) 0 in
-    let some = ltb 0 (tokenCount words) in
-    let whole = eqb-true (length words % 4) 0 (and-right size four (and-left (size && four) some (and-left (size && four && some) (leb (tokenCount words) 65536) e))) in
-    omega arith
+whole-words text words e = omega (arith, whole-says text words e .four)
 
 module _ (text words : List ℕ) (whole : wholeGood text words ≡ true) where
   -- before the first token
@@ -483,7 +459,7 @@ module _ (text words : List ℕ) (whole : wholeGood text words ≡ true) where
       record {
         i = 0;
         place = refl;
-        inside = some-tokens text words whole;
+        inside = whole-says text words whole .some;
         prev-is = refl;
         few = omega arith;
         counts = rw sub-zero;

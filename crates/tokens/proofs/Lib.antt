@@ -3,6 +3,7 @@ pub mod Laws
 pub mod LiteralLaws
 pub mod NameLaws
 pub mod TypeNames
+pub mod FormedLaws
 pub mod DoorLaws
 pub mod TokenLaws
 pub mod KeptLaws

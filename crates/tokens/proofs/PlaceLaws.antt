@@ -1,21 +1,17 @@
 -- A well-formed list's kept tokens lie one behind the other in the text, and there are no more of them than tokens. Assumes nothing.
-use Prim.Native.Nat.{ℕ, zero, suc, _+_, _-_, _%_, _≤_, _<_}
+use Prim.Native.Nat.{ℕ, zero, suc, _+_, _-_, _≤_, _<_}
 use mathlib.Core.Path.{_≡_, sym, ap, _∙_}
-use mathlib.Core.Bool.{true, _&&_}
 use mathlib.Core.List.{List, _++_}
 use mathlib.Core.Logic.{⊎-elim}
 use native.Mathlib.Omega.{arith}
 use native.Mathlib.Nat.{eq-or-lt-of-le}
-use borrow.Author.Tests.{leb-true, le-leb}
-use lib.Dec.{leb, ltb, eqb}
 use lib.ListN.{length, getD, take, drop, length-append}
 use lib.Seq.{sets-eq, take-at}
-use Rattle.tokens.specs.Kind.{kinds}
-use Rattle.tokens.specs.Token.{tokenCount, kindOf, startOf, endOf, extraOf, Positions}
+use Rattle.tokens.specs.Token.{tokenCount, startOf, endOf, Positions}
 use Rattle.tokens.specs.Place.{Lined, FromDoor, Place}
-use Rattle.tokens.specs.WellFormed.{wholeGood, prevEnd, rangeGood, eofGood, contentsGood, goodAfter, good, WellFormed}
+use Rattle.tokens.specs.WellFormed.{prevEnd, WellFormed}
 use Rattle.tokens.specs.Kept.{keptOf, keptPositions}
-use Rattle.tokens.proofs.Laws.{and-left, and-right}
+use Rattle.tokens.proofs.FormedLaws.{whole-says, Good, good-says}
 use Rattle.tokens.proofs.KeptLaws.{kept-rising, kept-numbered}
 use Rattle.tokens.proofs.TokenLaws.{field-inside}
 use Rattle.tokens.specs.Door.{values, door, keptAfter, Prepared}
@@ -25,40 +21,10 @@ use Rattle.tokens.proofs.DoorLaws.{LetThrough, ready}
 
 -- ---- the tokens of the lent list
 
--- what "well formed" says of token number i
-pub record Good (text words : List ℕ) (i : ℕ) : Type 0 where
-  pub known : ltb (kindOf words i) kinds ≡ true
-  pub after : prevEnd words i ≤ startOf words i
-  pub forwards : startOf words i ≤ endOf words i
-  pub within : endOf words i ≤ length text
-  pub eof : eofGood (eqb (i + 1) (tokenCount words)) (kindOf words i) ≡ true
-  pub contents : contentsGood text (kindOf words i) (startOf words i) (endOf words i) (extraOf words i) ≡ true
-
--- that is all that it says
-pub good-then : (text words : List ℕ) (i : ℕ) → Good text words i → good text words i ≡ true
-unfolding good goodAfter rangeGood
-good-then text words i g = rw (g .known, le-leb _ _ (g .after), le-leb _ _ (g .forwards), le-leb _ _ (g .within), g .eof, g .contents)
-
 module _ (text words : List ℕ) (formed : WellFormed text words) where
+  -- what each token is
   pub good-at : (i : ℕ) → i < tokenCount words → Good text words i
-  unfolding good goodAfter rangeGood
-  good-at i h =
-      let kind = ltb (kindOf words i) kinds in
-      let first = leb (prevEnd words i) (startOf words i) in
-      let second = leb (startOf words i) (endOf words i) in
-      let third = leb (endOf words i) (length text) in
-      let eof = eofGood (eqb (i + 1) (tokenCount words)) (kindOf words i) in
-      let contents = contentsGood text (kindOf words i) (startOf words i) (endOf words i) (extraOf words i) in
-      let upto-range = and-left (kind && (first && second && third)) eof (and-left (kind && (first && second && third) && eof) contents (formed .each i h)) in
-      let range : (first && second && third) ≡ true = and-right kind (first && second && third) upto-range in
-      record {
-        known = and-left kind (first && second && third) upto-range;
-        after = leb-true _ _ (and-left first second (and-left (first && second) third range));
-        forwards = leb-true _ _ (and-right first second (and-left (first && second) third range));
-        within = leb-true _ _ (and-right (first && second) third range);
-        eof = and-right (kind && (first && second && third)) eof (and-left (kind && (first && second && third) && eof) contents (formed .each i h));
-        contents = and-right (kind && (first && second && third) && eof) contents (formed .each i h);
-      }
+  good-at i h = good-says text words i (formed .each i h)
 
   -- a token ends before any later one starts
   pub ends-before : (i j : ℕ) → i < j → j < tokenCount words → endOf words i ≤ startOf words j
@@ -83,15 +49,6 @@ module _ (text words : List ℕ) (formed : WellFormed text words) where
           down : (i j : ℕ) → i < suc j → i ≤ j
           down i j h = omega arith
 
-  short : length text ≤ 1048576
-  unfolding wholeGood
-  short =
-      let a = leb (length text) 1048576 in
-      let b = eqb (length words % 4) 0 in
-      let c = ltb 0 (tokenCount words) in
-      let d = leb (tokenCount words) 65536 in
-      leb-true _ _ (and-left a b (and-left (a && b) c (and-left (a && b && c) d (formed .whole))))
-
   -- ---- the kept list
 
   abbrev at : Positions
@@ -114,7 +71,7 @@ module _ (text words : List ℕ) (formed : WellFormed text words) where
         next = λ p h.
             let here : p < length (keptOf words) = omega arith in
             rw (field-inside text words (keptOf words) 2 p here, field-inside text words (keptOf words) 1 (suc p) h) (kept-next p h);
-        end = λ p h. rw (field-inside text words (keptOf words) 2 p h) (omega (arith, short, kept-range p h .1));
+        end = λ p h. rw (field-inside text words (keptOf words) 2 p h) (omega (arith, whole-says text words (formed .whole) .short, kept-range p h .1));
       }
 
 -- what a well-formed list of so few tokens leaves

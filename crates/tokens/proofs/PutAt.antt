@@ -1,5 +1,5 @@
 -- Request [12]: bytes put into the text with a token of white space or a comment for them. The list stays well formed, and has that token more. Assumes nothing.
-use Prim.Native.Nat.{ℕ, zero, suc, _+_, _-_, _%_, _≤_, _<_}
+use Prim.Native.Nat.{ℕ, zero, suc, _+_, _-_, _≤_, _<_}
 use native.Mathlib.Nat.{eq-or-lt-of-le}
 use native.Mathlib.Numerals.{add-one}
 use native.Mathlib.Omega.{arith}
@@ -7,18 +7,19 @@ use mathlib.Core.Path.{_≡_, refl, sym, ap, subst, _∙_}
 use mathlib.Core.Bool.{Bool, true, false, _&&_, _||_, false≢true}
 use mathlib.Core.Logic.{⊎-elim}
 use mathlib.Core.List.{List, [], _∷_, _++_, append-assoc}
-use borrow.Author.Tests.{eqb-true, eqb-false, lt-ltb, le-leb, eq-eqb, ne-eqb}
+use borrow.Author.Tests.{eqb-true, eqb-false, eq-eqb, ne-eqb}
 use lib.ListN.{length, getD, take, drop, length-append, length-drop}
 use lib.Seq.{length-take-le, take-append-le, drop-append-le, take-take, drop-drop, drop-append-add}
-use lib.Dec.{leb, ltb, eqb}
+use lib.Dec.{ltb, eqb}
 use Rattle.tokens.specs.Kind.{kinds, Whitespace, Comment}
-use Rattle.tokens.specs.Number.{tokenWidth, mostBytes, mostTokens}
+use Rattle.tokens.specs.Number.{mostBytes, mostTokens}
 use Rattle.tokens.specs.Token.{tokenCount, kindOf, startOf, endOf, extraOf, part, tokenOf, view, numbers, allTokens}
-use Rattle.tokens.specs.WellFormed.{wholeGood, good, prevEnd, eofGood, textGood, extraGood, contentsGood, WellFormed}
+use Rattle.tokens.specs.WellFormed.{good, prevEnd, eofGood, textGood, extraGood, contentsGood, WellFormed}
 use Rattle.tokens.specs.Kept.{dropped}
 use Rattle.tokens.specs.PutBetween.{PutBetween, done, both, put, fieldsOf, PutAt}
-use Rattle.tokens.proofs.Laws.{lt-or-le, and-left, and-right, drop-take}
-use Rattle.tokens.proofs.PlaceLaws.{Good, good-then, good-at, ends-before}
+use Rattle.tokens.proofs.Laws.{lt-or-le, drop-take}
+use Rattle.tokens.proofs.FormedLaws.{whole-says, whole-then, Good, good-then}
+use Rattle.tokens.proofs.PlaceLaws.{good-at, ends-before}
 
 -- ---- parts of the text
 
@@ -224,19 +225,12 @@ module _ {text words : List ℕ} {i b : ℕ} {more text₂ words₂ : List ℕ} 
 
   -- within the limits of text and tokens
   pub put-at-formed : length text₂ ≤ mostBytes → tokenCount words₂ ≤ mostTokens → WellFormed text₂ words₂
-  unfolding wholeGood
-  put-at-formed few-bytes few-tokens = record { whole = whole; each = each }
+  put-at-formed few-bytes few-tokens =
+      record {
+        whole = whole-then text₂ words₂ (record { short = few-bytes; four = omega (arith, whole-says text words (formed .whole) .four, at .one-more); some = omega (arith, count); few = few-tokens });
+        each = each;
+      }
     where
-      even : length words % tokenWidth ≡ 0
-      even =
-          let a = leb (length text) mostBytes in
-          let d = eqb (length words % tokenWidth) 0 in
-          let some = ltb 0 (tokenCount words) in
-          eqb-true _ _ (and-right a d (and-left (a && d) some (and-left (a && d && some) (leb (tokenCount words) mostTokens) (formed .whole))))
-
-      whole : wholeGood text₂ words₂ ≡ true
-      whole = rw (le-leb _ _ few-bytes, le-leb _ _ few-tokens, lt-ltb 0 (tokenCount words₂) (omega (arith, count)), eq-eqb (length words₂ % tokenWidth) 0 (omega (arith, even, at .one-more)))
-
       each : (j : ℕ) → j < tokenCount words₂ → good text₂ words₂ j ≡ true
       each j l =
           good-then text₂ words₂ j

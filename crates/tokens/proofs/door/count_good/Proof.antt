@@ -4,7 +4,8 @@ use native.Mathlib.Omega.{arith}
 use lib.ListN.{length, getD}
 use Rattle.tokens.specs.Kept.{dropped}
 use Rattle.tokens.proofs.Laws.{said-no, said-yes}
-use Rattle.tokens.proofs.DoorLaws.{one-most, asked-some, some-tokens, Walked, walk-start, starts-early, ends-early, asked-wrong, range-wrong, last-wrong, walk-on, walk-end}
+use Rattle.tokens.proofs.FormedLaws.{whole-says}
+use Rattle.tokens.proofs.DoorLaws.{one-most, asked-some, Walked, walk-start, starts-early, ends-early, asked-wrong, range-wrong, last-wrong, walk-on, walk-end}
 use borrow.Author.Needs.{needs}
 use Rattle.tokens.proofs.door.count_good.Statement.{statement}
 use Rattle.tokens.proofs.door.count_good.Tie as tie
@@ -16,7 +17,7 @@ abbrev μ-loop : tie.MeasureT-loop
 μ-loop text tokens last count₀ prev₀ at₀ count prev at = length tokens - at
 
 sub-last : tie.Need-sub-last Inv-loop μ-loop
-sub-last c = omega (arith, some-tokens _ _ (c .before .before .pre))
+sub-last c = omega (arith, whole-says _ _ (c .before .before .pre) .some)
 
 loop-holds : tie.Need-loop-holds Inv-loop μ-loop
 loop-holds c = walk-start _ _ (c .before .before .pre)
