@@ -39,12 +39,14 @@ pub record SameRecords (whole whole₂ : List ℕ → List ℕ) (count width : �
 abbrev pub SameDefinitions : Positions → Positions → ℕ → List ℕ → List ℕ → List ℕ → List ℕ → Type 0
 SameDefinitions pos pos₂ count = SameRecords (placed pos) (placed pos₂) count unplacedWidth
 
--- statement and argument records as they are
+-- a record as it is
 abbrev pub asIs : List ℕ → List ℕ
 asIs words = words
 
+-- statement records, all words of each
 abbrev pub SameStatements : ℕ → List ℕ → List ℕ → List ℕ → List ℕ → Type 0
 SameStatements count = SameRecords asIs asIs count statementWidth
 
+-- argument records, all words of each
 abbrev pub SameArguments : ℕ → List ℕ → List ℕ → List ℕ → List ℕ → Type 0
 SameArguments count = SameRecords asIs asIs count argumentWidth
