@@ -1,4 +1,6 @@
 // Answers cases, one a line, from standard input to standard output: docs/CASES.md.
+#![tactic(auto)]
+
 mod answer;
 mod input;
 mod lend;

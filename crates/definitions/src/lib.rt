@@ -1,4 +1,6 @@
 // The definition layer: one definition of a file.
+#![tactic(auto)]
+
 mod constant;
 mod definition;
 mod head;

@@ -1,4 +1,5 @@
 // What a text's tokens are: definitions and theorems. Of code there are only the answers of one look at a text, which the lexer and the definitions share.
+#![tactic(auto)]
 
 // Where one reads: outside braces; outside them, behind a CodeTable whose braces are still to come; inside braces; inside a code table's braces.
 #[derive(Drop)]

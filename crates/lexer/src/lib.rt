@@ -1,4 +1,6 @@
 // The lexer: a text's bytes in, and the tokens that they are out.
+#![tactic(auto)]
+
 mod call;
 mod class;
 mod lexeme;

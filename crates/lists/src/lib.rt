@@ -1,4 +1,6 @@
 // Lists of arguments, and a number in parentheses: what the statement and the definition layer read alike.
+#![tactic(auto)]
+
 mod argument;
 mod list;
 mod single;

@@ -1,4 +1,6 @@
 // Remembered names, below all layers: is a name among them, and which label has a name that stands again?
+#![tactic(auto)]
+
 mod labels;
 mod names;
 

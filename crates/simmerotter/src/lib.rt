@@ -1,5 +1,7 @@
 // The library for programs in other languages: both entries and the lexer under C's calling convention. Numbers pass as themselves, a slice as its pointer and its length in
 // elements, the answer's array as its pointer. `bindings/c/simmerotter.h` and `bindings/rust` declare the same three functions.
+#![tactic(auto)]
+
 mod values;
 
 ghost use Rattle.simmerotter.specs.Answered.{LexAnswered, FileAnswered, BodyAnswered};

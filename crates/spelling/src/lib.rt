@@ -1,4 +1,6 @@
 // How words are spelled: which of them are mnemonics, keywords and type names.
+#![tactic(auto)]
+
 mod find;
 mod table;
 

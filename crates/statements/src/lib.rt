@@ -1,4 +1,6 @@
 // The statement layer: the body of a macro, and the entry that reads one body.
+#![tactic(auto)]
+
 mod body;
 mod entry;
 mod item;

@@ -138,6 +138,7 @@ counted false i rest = omega arith
 
 -- a number that is written where the next one is written is of no account
 sets_over : (t rest : List ℕ) (m v : ℕ) → 0 < length rest → sets (set t m v) m rest ≡ sets t m rest
+sets_over t [] m v h = absurd (omega arith)
 sets_over t (x ∷ rest) m v h = rw (set-set t m v x)
 
 -- a turn of `keep`: the number is written, and stays unless it is dropped

@@ -10,7 +10,7 @@ use borrow.Author.Tests.{not-true}
 use lib.Dec.{eqb}
 use lib.ListN.{length, replicate}
 use Rattle.tokens.specs.Byte.{bytes, same}
-use Rattle.tokens.specs.Number.{type_none, type_address, type_bool, type_string, type_bytes, type_uint, type_int, type_bytes_n}
+use Rattle.tokens.specs.Number.{type_none, type_address, type_bool, type_string, type_uint, type_int, type_bytes_n}
 use Rattle.tokens.specs.Name.{ListedType, decimal, multiples, sized, bare_types, type_names, look_up, type_of, reserved, one_of, AllDifferent}
 use Rattle.tokens.proofs.Laws.{and_left, and_right, or_split}
 use Rattle.tokens.proofs.NameLaws.{same_equal, Typed, names_typed}

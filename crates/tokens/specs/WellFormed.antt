@@ -1,5 +1,5 @@
 -- Document 01, "Well formed".
-use Rattle.std.specs.Prelude.{ℕ, zero, suc, ◌+◌, ◌/◌, ◌%◌, ◌≤◌, ◌<◌, ◌≡◌, Bool, true, false, cond, not, ◌&&◌, ◌||◌, List, length, leb, ltb, eqb}
+use Rattle.std.specs.Prelude.{ℕ, zero, suc, ◌+◌, ◌%◌, ◌<◌, ◌≡◌, Bool, true, false, cond, not, ◌&&◌, List, length, leb, ltb, eqb}
 use Rattle.tokens.specs.Kind.{kinds, Eof, Ident, Label, Literal, Opcode, Num}
 use Rattle.tokens.specs.Number.{token_width, most_bytes, most_tokens}
 use Rattle.tokens.specs.Token.{token_count, kind_of, start_of, end_of, extra_of, part}

@@ -1,5 +1,7 @@
 // The token layer: what is lent is tested at the door, tokens are read by their place, records are written where they fit.
 // The accessors by place ask that the kept list is one that the door wrote; nothing else here asks anything of its caller.
+#![tactic(auto)]
+
 mod door;
 pub mod kind;
 mod lent;
