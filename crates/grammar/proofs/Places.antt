@@ -3,7 +3,7 @@ use Prim.Native.Nat.{ℕ, suc, ◌+◌}
 use native.Mathlib.Nat.{add-zero, add-suc, suc-add}
 use native.Mathlib.Numerals.{add-one, add-two}
 use native.Mathlib.Omega.{arith}
-use mathlib.Core.Path.{◌≡◌, refl, sym, ◌∙◌, ap}
+use mathlib.Core.Path.{◌≡◌, refl, sym, ◌∙◌, ap, subst}
 use mathlib.Core.Logic.{◌≢◌}
 use mathlib.Core.Bool.{Bool, true, false}
 use mathlib.Core.List.{List, [], ◌∷◌, ◌++◌, append_assoc, flatten}
@@ -136,12 +136,12 @@ body_placed m p xs r (body {xs = us} {ys = vs} {is = is} {gs = gs} o c e k g f) 
 
 labels_placed : (m : Rules) (seen : List (List ℕ)) (p : ℕ) (xs : List Token) (gs : List Group) → Many remember (LabelGroup m) seen p xs gs → (ys : List Token) → All (PlacedLabel p (xs ++ ys)) gs
 labels_placed m seen p xs gs none ys = tt
-labels_placed m seen p xs gs (more {ys = vs} {rs = rs} (group {xs = us} t c e w f k) n) ys =
-    rw (append_assoc us vs ys) (
-      at_first p t (c ∷ (us ++ (vs ++ ys))) e tt,
-      all_map (PlacedLabel (p + suc (suc (length us))) (vs ++ ys)) (PlacedLabel p (t ∷ c ∷ (us ++ (vs ++ ys)))) rs (λ g. with_before p (t ∷ c ∷ us) (vs ++ ys))
-          (labels_placed m (t.text ∷ seen) (p + suc (suc (length us))) vs rs n ys),
-    )
+labels_placed m seen p xs gs (more {ys = vs} {rs = rs} (group {xs = us} t c e w f k) n) ys = (
+  at_first p t (c ∷ ((us ++ vs) ++ ys)) e tt,
+  subst (λ (l : List Token). All (PlacedLabel p (t ∷ c ∷ l)) rs) (sym (append_assoc us vs ys))
+      (all_map (PlacedLabel (p + suc (suc (length us))) (vs ++ ys)) (PlacedLabel p (t ∷ c ∷ (us ++ (vs ++ ys)))) rs (λ g. with_before p (t ∷ c ∷ us) (vs ++ ys))
+      (labels_placed m (t.text ∷ seen) (p + suc (suc (length us))) vs rs n ys)),
+)
 
 body_labels : (m : Rules) (p : ℕ) (xs : List Token) (r : Reading) → Body m p xs r → (zs : List Token) → All (PlacedLabel p (xs ++ zs)) r.groups
 body_labels m p xs r (body {xs = us} {ys = vs} {is = is} {gs = gs} o c e k g f) zs =

@@ -1,6 +1,6 @@
 -- Request [12]: what two calls with the same kept tokens leave. The definition records at two positions differ in their last two words alone; and by a call's number
 -- it is told whether it was turned away at its entrance. Assumes nothing.
-use Prim.Native.Nat.{ℕ}
+use Prim.Native.Nat.{ℕ, ◌+◌}
 use mathlib.Core.Path.{◌≡◌, refl, sym, ap, ◌∙◌}
 use mathlib.Core.Bool.{Bool, true, false, cond, not, true≢false}
 use mathlib.Core.List.{List, [], ◌∷◌, map, map-id}
@@ -19,7 +19,7 @@ use Rattle.grammar.specs.PlainLength.{is_edition}
 use Rattle.grammar.specs.Result.{Answer, read, refused}
 use Rattle.grammar.specs.Facts.{All, HasWords}
 use Rattle.grammar.specs.FileReading.{Definition}
-use Rattle.grammar.specs.FileRecords.{definition_record, definition_records, file_statements, file_argument_records}
+use Rattle.grammar.specs.FileRecords.{form_count, form_arguments, definition_record, definition_records, file_statements, file_argument_records}
 use Rattle.grammar.specs.Call.{refusal, body_numbers, file_numbers, chosen, file_entrance, body_entrance, after_door, records_of, filled, turned_away, held_after}
 use Rattle.grammar.specs.TextRanges.{unplaced_width, placed}
 use Rattle.grammar.specs.Same.{AfterBoth, OwnNumbers, SameRecords, SameDefinitions, as_is}
@@ -46,12 +46,12 @@ record_wide i a d = rw (two_words d.form)
 records_placed : (pos : Positions) (i a : ℕ) (ds : List Definition) → definition_records pos i a ds ≡ map (placed pos) (placeless (definition_records nowhere i a ds))
 unfolding definition_records
 records_placed pos i a [] = refl
-records_placed pos i a (d ∷ ds) = rw (record_placed pos i a d, records_placed pos _ _ ds)
+records_placed pos i a (d ∷ ds) = rw (record_placed pos i a d, records_placed pos (i + form_count d.form) (a + length (form_arguments d.form)) ds)
 
 records_wide : (i a : ℕ) (ds : List Definition) → All (HasWords unplaced_width) (placeless (definition_records nowhere i a ds))
 unfolding definition_records
 records_wide i a [] = tt
-records_wide i a (d ∷ ds) = (record_wide i a d, records_wide _ _ ds)
+records_wide i a (d ∷ ds) = (record_wide i a d, records_wide (i + form_count d.form) (a + length (form_arguments d.form)) ds)
 
 -- ---- turned away or not
 

@@ -3,7 +3,7 @@ use Prim.Native.Nat.{ℕ, zero, suc, ◌+◌, ◌-◌, ◌*◌, ◌≤◌, ◌<�
 use native.Mathlib.Nat.{eq-or-lt_of_le, add-zero, add-suc, suc-add, add_assoc, suc-mul, zero-mul}
 use native.Mathlib.Numerals.{add-one, add-two, add-three}
 use native.Mathlib.Omega.{arith}
-use mathlib.Core.Path.{◌≡◌, refl, sym, ◌∙◌, ap}
+use mathlib.Core.Path.{◌≡◌, refl, sym, ◌∙◌, ap, subst}
 use mathlib.Core.Logic.{◌≢◌, ⊎_elim}
 use mathlib.Core.Bool.{Bool, true, false}
 use mathlib.Core.List.{List, [], ◌∷◌, ◌++◌, map, map-append, flatten, append_assoc}
@@ -60,12 +60,12 @@ stored_back w table i (x ∷ xs) ys h = rw (add-suc i (length xs), ← suc-add i
 stored_behind : (w i : ℕ) (before behind : List ℕ) (rs : List (List ℕ)) → length before ≡ i * w → All (λ r. length r ≡ w) rs → Stored w (before ++ (flatten rs ++ behind)) i rs
 unfolding flatten
 stored_behind w i before behind [] e h = tt
-stored_behind w i before behind (r ∷ rs) e h =
-    rw (append_assoc r (flatten rs) behind) (
-      ap (take w) (drop_at before (r ++ (flatten rs ++ behind)) (i * w) e) ∙ take_at r (flatten rs ++ behind) w h.0,
-      rw (← append_assoc before r (flatten rs ++ behind)) (stored_behind w (suc i) (before ++ r) behind rs
-          (length-append before r ∙ omega (arith, e, h.0, suc-mul i w)) h.1),
-    )
+stored_behind w i before behind (r ∷ rs) e h = (
+  rw (append_assoc r (flatten rs) behind) (ap (take w) (drop_at before (r ++ (flatten rs ++ behind)) (i * w) e) ∙ take_at r (flatten rs ++ behind) w h.0),
+  subst (λ (l : List ℕ). Stored w l (suc i) rs)
+      (append_assoc before r (flatten rs ++ behind) ∙ ap (λ (l : List ℕ). before ++ l) (sym (append_assoc r (flatten rs) behind)))
+      (stored_behind w (suc i) (before ++ r) behind rs (length-append before r ∙ omega (arith, e, h.0, suc-mul i w)) h.1),
+)
 
 -- records of one width, followed by zeros, are stored from number 0 on
 pub stored_filled : (w size : ℕ) (rs : List (List ℕ)) → All (λ r. length r ≡ w) rs → Stored w (filled size rs) 0 rs

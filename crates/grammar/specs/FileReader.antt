@@ -1,6 +1,6 @@
 -- The reader of a file, total on every list of tokens, one reader for each function of the Rust's parser: it answers the definitions and the place of Eof,
 -- or document 01's number and cursor.
-use Rattle.std.specs.Prelude.{ℕ, suc, ◌+◌, Bool, true, false, cond, ◌&&◌, List, [], ◌∷◌, eqb}
+use Rattle.std.specs.Prelude.{ℕ, suc, Bool, true, false, cond, ◌&&◌, List, [], ◌∷◌, eqb}
 use Rattle.tokens.specs.Number.{UnexpectedType, InvalidDefinition, InvalidConstantValue, InvalidTableBodyToken, DuplicateMacro, PoundAtTopLevel}
 use Rattle.tokens.specs.Token.{Token, token_at}
 use Rattle.tokens.specs.Kind.{Eof, Include, Define, Pound, Macro, Fn, Test, Function, Event, Constant, Error, JumpTable, JumpTablePacked, CodeTable, Takes, Returns, View, Pure, Payable, NonPayable, Assign, OpenParen, CloseParen, OpenBrace, CloseBrace, FreeStoragePointer, Ident, Literal, Str}

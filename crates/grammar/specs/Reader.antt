@@ -1,5 +1,5 @@
 -- The reader of a body: total on every list of tokens and from every place. It answers the reading and the tokens taken, or document 01's number and cursor.
-use Rattle.std.specs.Prelude.{ℕ, suc, ◌+◌, Bool, true, false, cond, ◌&&◌, ◌||◌, drop, eqb}
+use Rattle.std.specs.Prelude.{ℕ, suc, Bool, true, false, cond, ◌&&◌, ◌||◌, drop, eqb}
 use mathlib.Core.List.{List, [], ◌∷◌, flatten}
 use Rattle.tokens.specs.Number.{UnexpectedType, InvalidPush, InvalidTokenInMacroBody, InvalidTokenInLabelDefinition, InvalidTypeAsArgumentName, InvalidArgs, InvalidMacroArgs, InvalidConstant, InvalidArgCallIdent, DuplicateLabel, name_form, string_form, literal_form, call_literal_form, call_name_form, in_calldata, in_memory, in_storage}
 use Rattle.tokens.specs.Token.{Token}
