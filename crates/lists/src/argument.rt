@@ -12,7 +12,7 @@ ghost use Rattle.lists.specs.Answers.{arg_answer, ArgRead, RestRead, named, angl
 use tokens::{is_reserved, kind, kind_at, number, text_at};
 
 // An argument's seven words.
-#[derive(Drop)]
+#[derive(Clone, Copy)]
 pub struct Argument {
     pub form: u32,
     pub ty: u32,
@@ -31,7 +31,7 @@ pub enum Arg {
 }
 
 // The sorts of a list: a call's, a builtin's, a macro's, a typed one's, and an event's, which may have Indexed.
-#[derive(Drop)]
+#[derive(Clone, Copy)]
 pub enum Sort {
     Call,
     Builtin,
