@@ -17,7 +17,7 @@ use lists::{ArgList, Sort, parse_args};
 use tokens::{extra_at, is_value_push, kind, kind_at, number, push_overflows, put_record, text_at};
 
 // How far the reading is: the next place, and the records written so far.
-#[derive(Drop)]
+#[derive(Clone, Copy)]
 pub struct Progress {
     pub at: usize,
     pub statements: usize,
@@ -25,7 +25,7 @@ pub struct Progress {
 }
 
 // The progress behind what was read; or a refusal's number and cursor.
-#[derive(Drop)]
+#[derive(Clone, Copy)]
 pub enum Items {
     Done(Progress),
     Refused(u32, usize),
