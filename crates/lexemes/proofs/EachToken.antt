@@ -8,9 +8,9 @@ use mathlib.Core.List.{List, [], ◌∷◌}
 use native.Mathlib.Omega.{arith}
 use borrow.Author.Tests.{ltb-true, ltb-false, lt-ltb, le-leb, eq-eqb, ne_eqb, not-true}
 use lib.Dec.{ltb, eqb}
-use lib.ListN.{length, get_or, take, drop, length-take}
+use lib.ListN.{length, get_or, take, drop}
 use lib.Seq.{length-take-le}
-use Rattle.tokens.specs.Byte.{bytes, same, is_hex, all_hex}
+use Rattle.tokens.specs.Byte.{bytes, is_hex, all_hex}
 use Rattle.tokens.specs.Kind.{kinds, Eof, Whitespace, Comment, Include, Define, FreeStoragePointer, Ident, Label, Literal, Opcode, Num, Str, BuiltinFunction, PrimitiveType}
 use Rattle.tokens.specs.Literal.{is_literal}
 use Rattle.tokens.specs.Name.{reserved}
@@ -18,8 +18,7 @@ use Rattle.tokens.specs.Number.{longest_literal}
 use Rattle.tokens.specs.Token.{kind_of, start_of, end_of, extra_of}
 use Rattle.tokens.specs.WellFormed.{text_good, extra_good}
 use Rattle.tokens.proofs.Laws.{and_left, and_right}
-use Rattle.tokens.proofs.NameLaws.{same_equal}
-use Rattle.spelling.specs.Spelling.{Spelt, spelt, value_of, marks, keywords, no_opcode, opcode_of, kind_outside}
+use Rattle.spelling.specs.Spelling.{spelt, value_of, marks, keywords, no_opcode, opcode_of, kind_outside}
 use Rattle.lexemes.specs.Bytes.{is_quote, all, begins, first}
 use Rattle.lexemes.specs.Contexts.{is_code, is_body}
 use Rattle.lexemes.specs.Reads.{eof_at}

@@ -1,10 +1,9 @@
 -- At each byte and in each context exactly one of two holds: one token begins there, or what stands there is refused with one number; and the reader says which. Assumes nothing.
-use Prim.Native.Nat.{ℕ, zero, suc, ◌+◌, ◌-◌, ◌≤◌, ◌<◌}
+use Prim.Native.Nat.{ℕ, zero, suc, ◌+◌, ◌<◌}
 use Prim.Native.Char.{code}
-use mathlib.Core.Path.{◌≡◌, refl, sym, ap, subst, ◌∙◌}
-use mathlib.Core.Bool.{Bool, true, false, cond, not, ◌&&◌, ◌||◌, false≢true}
+use mathlib.Core.Path.{◌≡◌, refl, sym, subst, ◌∙◌}
+use mathlib.Core.Bool.{Bool, true, false, cond}
 use mathlib.Core.List.{List, [], ◌∷◌}
-use mathlib.Core.Logic.{◌⊎◌, inl, inr, ⊎_elim}
 use native.Mathlib.Omega.{arith}
 use borrow.Author.Tests.{eqb-true}
 use lib.ListN.{length, get_or, take, drop}
@@ -15,18 +14,17 @@ use Rattle.tokens.proofs.Laws.{and_left}
 use Rattle.tokens.specs.Number.{StartsNothing, NotClosed, TooLarge}
 use Rattle.tokens.specs.Kind.{Eof}
 use Rattle.spelling.specs.Spelling.{value_of, marks}
-use Rattle.lexemes.specs.Bytes.{is_space, is_digit, is_word_byte, is_quote, in_line, in_quotes, begins, first}
+use Rattle.lexemes.specs.Bytes.{is_space, is_digit, is_word_byte, is_quote, in_quotes, begins, first}
 use Rattle.lexemes.specs.Contexts.{is_code}
-use Rattle.lexemes.specs.Shapes.{Begins, Lexeme, NoLexeme}
-use Rattle.lexemes.specs.Texts.{too_large, told, quotes, token_words, IsToken, opens, Bad, nothing, unclosed, large}
+use Rattle.lexemes.specs.Shapes.{Lexeme, NoLexeme}
+use Rattle.lexemes.specs.Texts.{too_large, token_words, IsToken, opens, Bad, nothing, unclosed, large}
 use Rattle.lexemes.specs.Reader as reader
 use Rattle.lexemes.specs.Reader.{run, opened, slash, quoted, hashed, hash, digits, worded, mark_is, marked, lexeme_of, step_of, step, step_at}
 use Rattle.lexemes.specs.declared.Context.{Context}
 use Rattle.lexemes.specs.declared.Found.{Found}
 use Rattle.lexemes.specs.declared.Found.TheVariants.{Is, Not}
-use Rattle.lexemes.specs.declared.Step.{Step}
 use Rattle.lexemes.specs.declared.Step.TheVariants.{Token, Stop}
-use Rattle.lexemes.proofs.Sound.{Good, by_cond, begins_is, sound}
+use Rattle.lexemes.proofs.Sound.{Good, by_cond, sound}
 use Rattle.lexemes.proofs.Complete.{AtLeast, complete}
 
 -- ---- the lexeme

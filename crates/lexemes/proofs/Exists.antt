@@ -9,7 +9,7 @@ use Rattle.tokens.proofs.Laws.{lt_or_le}
 use Rattle.lexemes.specs.Contexts.{after}
 use Rattle.lexemes.specs.Texts.{token_words, IsToken}
 use Rattle.lexemes.specs.Reads.{eof_at, Reads, ends, goes, Stops, here, later, Reading, Refusal}
-use Rattle.lexemes.specs.Reader.{step_at, Ending, whole, refused, Walked, more, walk, reading}
+use Rattle.lexemes.specs.Reader.{step_at, whole, refused, Walked, more, walk, reading}
 use Rattle.lexemes.specs.declared.Context.{Context}
 use Rattle.lexemes.specs.declared.Context.TheVariants.{Out}
 use Rattle.lexemes.specs.declared.Step.{Step}

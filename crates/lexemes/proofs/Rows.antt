@@ -10,7 +10,7 @@ use Rattle.lexemes.specs.Bytes.{is_space, is_digit, is_word_byte, is_quote, in_l
 use Rattle.lexemes.specs.Contexts.{is_code, is_body, after}
 use Rattle.lexemes.specs.Words.{in_braces, by_place, word_of}
 use Rattle.lexemes.specs.Texts.{decimal_after, too_large, told, quotes}
-use Rattle.lexemes.specs.Reads.{eof_at, Reading, Refusal}
+use Rattle.lexemes.specs.Reads.{eof_at, Reading}
 use Rattle.lexemes.specs.Reader as reader
 use Rattle.lexemes.specs.Reader.{run, closing, opened, slash, quoted, hashed, hash, digits, worded, mark_is, lexeme_of, step_of, step_at, Ending, whole, refused, Walked, walk, reading}
 use Rattle.lexemes.specs.Rows.{Row, reads, stops, Holds, AllHold, rows, other_rows}

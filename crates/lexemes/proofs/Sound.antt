@@ -2,21 +2,21 @@
 use Prim.Native.Nat.{ℕ, zero, suc, ◌+◌, ◌-◌, ◌≤◌, ◌<◌}
 use Prim.Native.Char.{code}
 use mathlib.Core.Path.{◌≡◌, refl, sym, ap, subst, ◌∙◌}
-use mathlib.Core.Bool.{Bool, true, false, cond, ◌&&◌, false≢true, and-true}
-use mathlib.Core.List.{List, [], ◌∷◌, ◌++◌}
+use mathlib.Core.Bool.{Bool, true, false, cond, and-true}
+use mathlib.Core.List.{List, [], ◌∷◌}
 use native.Mathlib.Omega.{arith}
 use borrow.Author.Tests.{eqb-true, ltb-true}
 use lib.ListN.{length, get_or, take, drop, length-drop, take-append-drop}
 use lib.Dec.{eqb, ltb}
 use lib.Seq.{length-take-le, take-take, get_or-take, get_or-drop}
 use Rattle.tokens.specs.Byte.{bytes, same, is_hex}
-use Rattle.tokens.specs.Kind.{Eof, Whitespace, Comment, Include, Define, Pound, FreeStoragePointer, Ident, Literal, Num, Str}
+use Rattle.tokens.specs.Kind.{Eof, Whitespace, Comment, Str}
 use Rattle.tokens.proofs.Laws.{and_left, and_right, drop_take}
 use Rattle.tokens.proofs.NameLaws.{same_equal}
 use Rattle.spelling.specs.Spelling.{spelt, value_of, marks}
 use Rattle.lexemes.specs.Bytes.{is_space, is_digit, is_word_byte, is_quote, in_line, in_quotes, all, begins, first}
 use Rattle.lexemes.specs.Contexts.{is_code}
-use Rattle.lexemes.specs.Shapes.{Shape, space, line, block, string, define, include, mark, entry, literal, number, word, pointer, Begins}
+use Rattle.lexemes.specs.Shapes.{space, line, block, string, define, include, mark, entry, literal, number, word, pointer, Begins}
 use Rattle.lexemes.specs.Reader as reader
 use Rattle.lexemes.specs.Reader.{run, closing, opened, slash, quoted, hashed, hash, digits, worded, mark_is, marked, lexeme_of}
 use Rattle.lexemes.specs.declared.Context.{Context}

@@ -1,6 +1,6 @@
 -- The walk over a text goes on token by token, and each step lies in the text. Assumes nothing.
 use Prim.Native.Nat.{ℕ, zero, suc, ◌+◌, ◌-◌, ◌≤◌, ◌<◌}
-use mathlib.Core.Path.{◌≡◌, refl, sym, ap, subst, ◌∙◌}
+use mathlib.Core.Path.{◌≡◌, sym, subst, ◌∙◌}
 use mathlib.Core.Bool.{Bool, true, false, cond}
 use mathlib.Core.List.{List, [], ◌∷◌}
 use native.Mathlib.Omega.{arith}
@@ -10,7 +10,7 @@ use lib.Seq.{drop-cons, drop-drop, get_or-drop}
 use Rattle.lexemes.specs.Contexts.{after}
 use Rattle.lexemes.specs.Texts.{too_large}
 use Rattle.lexemes.specs.Reads.{eof_at}
-use Rattle.lexemes.specs.Reader.{lexeme_of, step_of, step, step_at, Ending, whole, refused, Walked, more, onto, walk}
+use Rattle.lexemes.specs.Reader.{lexeme_of, step_of, step, step_at, whole, refused, more, onto, walk}
 use Rattle.lexemes.specs.declared.Context.{Context}
 use Rattle.lexemes.specs.declared.Found.{Found}
 use Rattle.lexemes.specs.declared.Found.TheVariants.{Is, Not}

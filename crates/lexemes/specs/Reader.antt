@@ -1,6 +1,6 @@
 -- Inner: the same by computing, as the code goes: the lexeme by its first byte, the token, and the reading of a text from left to right. That it is what the other files say is proved
 -- (Exactly, Exists).
-use Rattle.std.specs.Prelude.{ℕ, zero, suc, ◌+◌, ◌-◌, Bool, true, false, cond, ◌&&◌, List, [], ◌∷◌, length, get_or, take, drop, eqb, ltb}
+use Rattle.std.specs.Prelude.{ℕ, zero, suc, ◌+◌, ◌-◌, Bool, cond, ◌&&◌, List, [], ◌∷◌, length, get_or, take, drop, eqb, ltb}
 use Prim.Native.Char.{code}
 use Rattle.tokens.specs.Byte.{bytes, is_hex}
 use Rattle.tokens.specs.Kind.{Eof, Whitespace, Comment, Include, Define, Pound, FreeStoragePointer, Ident, Literal, Num, Str}

@@ -1,6 +1,6 @@
 -- Request [4], for reviewers: what can be said of a token list beside its text, token by token.
 use Rattle.std.specs.Prelude.{ℕ, zero, suc, ◌+◌, ◌-◌, ◌*◌, ◌≤◌, ◌<◌, ◌≡◌, true, List, [], ◌∷◌, length, get_or, drop}
-use Rattle.tokens.specs.Kind.{Eof, Str}
+use Rattle.tokens.specs.Kind.{Str}
 use Rattle.tokens.specs.Number.{token_width}
 use Rattle.tokens.specs.Token.{token_count, kind_of, start_of, end_of, extra_of}
 use Rattle.lexemes.specs.Bytes.{is_quote}

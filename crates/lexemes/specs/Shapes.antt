@@ -1,5 +1,5 @@
 -- Request [4]: what a lexeme is, by conditions on its bytes alone, and "the longest match wins". No lexer stands here.
-use Rattle.std.specs.Prelude.{ℕ, ◌+◌, ◌-◌, ◌≤◌, ◌<◌, ◌≡◌, Bool, true, false, List, ◌++◌, length, get_or, take, drop}
+use Rattle.std.specs.Prelude.{ℕ, ◌+◌, ◌-◌, ◌≤◌, ◌<◌, ◌≡◌, true, false, List, ◌++◌, length, get_or, take, drop}
 use Rattle.tokens.specs.Byte.{bytes, is_hex}
 use Rattle.tokens.specs.Kind.{Eof, Whitespace, Comment, Include, Define, FreeStoragePointer, Ident, Literal, Num, Str}
 use Rattle.spelling.specs.Spelling.{marks, value_of}

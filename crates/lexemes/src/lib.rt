@@ -2,7 +2,7 @@
 #![tactic(auto)]
 
 // Where one reads: outside braces; outside them, behind a CodeTable whose braces are still to come; inside braces; inside a code table's braces.
-#[derive(Drop)]
+#[derive(Clone, Copy)]
 pub enum Context {
     Out,
     Wait,

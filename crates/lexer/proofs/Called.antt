@@ -1,25 +1,25 @@
 -- What follows from the promise of `lex`, for who reads its answers. Assumes nothing.
 use Prim.Native.Nat.{ℕ, ◌*◌, ◌-◌, ◌/◌, ◌≤◌, ◌<◌}
 use native.Mathlib.Omega.{arith}
-use mathlib.Core.Path.{◌≡◌, refl, sym, ap, subst, ◌∙◌}
-use mathlib.Core.List.{List, [], ◌∷◌, ◌++◌, flatten}
-use mathlib.Core.Logic.{◌⊎◌, inl, inr, ⊎_elim, ◌↔◌}
-use lib.ListN.{length, take, replicate, length-take}
+use mathlib.Core.Path.{◌≡◌, refl, ap, ◌∙◌}
+use mathlib.Core.List.{List, ◌++◌, flatten}
+use mathlib.Core.Logic.{◌⊎◌, inl, inr, ◌↔◌}
+use lib.ListN.{length, take, replicate}
 use lib.Seq.{take_at}
 use Rattle.tokens.specs.Number.{StartsNothing, NotClosed, TooLarge, most_bytes, most_tokens, token_width}
 use Rattle.tokens.specs.Token.{token_count}
 use Rattle.tokens.specs.WellFormed.{WellFormed}
-use Rattle.lexemes.specs.Texts.{Bad, nothing, unclosed, large}
-use Rattle.lexemes.specs.Reads.{Stops, here, later, Reading, Refusal}
+use Rattle.lexemes.specs.Texts.{nothing, unclosed, large}
+use Rattle.lexemes.specs.Reads.{Stops, here, later, Reading}
 use Rattle.lexemes.specs.Right.{Covers, Right}
 use Rattle.lexemes.specs.declared.Context.{Context}
-use Rattle.lexemes.proofs.Exists.{reading_or_refusal, never_both}
+use Rattle.lexemes.proofs.Exists.{never_both}
 use Rattle.lexemes.proofs.RightLaws.{reads_words, reading_right, right_reading}
 use Rattle.lexemes.proofs.Covers.{reading_covers}
 use Rattle.lexemes.proofs.Formed.{reading_formed}
 use Rattle.lexer.specs.declared.call.Lexed.{Lexed}
-use Rattle.lexer.specs.declared.call.Lexed.TheVariants.{TextTooLong, Refused, TokensTooShort, Read}
-use Rattle.lexer.specs.Call.{NoRoom, LexCall, too_long, refused, too_short, read}
+use Rattle.lexer.specs.declared.call.Lexed.TheVariants.{Refused, Read}
+use Rattle.lexer.specs.Call.{LexCall, too_long, refused, too_short, read}
 use Rattle.lexer.proofs.Fixed.{one_call}
 
 -- the tokens that an accepted call leaves in the list

@@ -1,5 +1,5 @@
 -- Request [4]: the call: its answer, and the token list behind it.
-use Rattle.std.specs.Prelude.{ℕ, ◌*◌, ◌-◌, ◌/◌, ◌≤◌, ◌<◌, ◌≡◌, ◌⊎◌, length, replicate}
+use Rattle.std.specs.Prelude.{ℕ, ◌*◌, ◌-◌, ◌/◌, ◌≤◌, ◌<◌, ◌⊎◌, length, replicate}
 use mathlib.Core.List.{List, [], ◌∷◌, ◌++◌, flatten}
 use Rattle.tokens.specs.Number.{most_bytes, most_tokens, token_width}
 use Rattle.tokens.specs.Number as number

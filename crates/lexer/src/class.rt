@@ -5,7 +5,7 @@ ghost use Rattle.lexemes.specs.Reader.{run, closing, opened};
 ghost use Rattle.lexer.specs.Classes.{within};
 
 // What a run is made of. Letter: letters, digits and underscores; Line: all but LF; Double and Single: what stands in a string between such quotes.
-#[derive(Drop)]
+#[derive(Clone, Copy)]
 pub enum Class {
     Space,
     Digit,

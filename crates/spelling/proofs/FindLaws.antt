@@ -97,8 +97,14 @@ right_of p w h =
       short = leb-true _ _ (t 3);
       inside = ltb-true _ _ (t 4);
       opcode = eqb-true _ _ (t 5);
-      keyword = λ b. elim b [ true ↦ eqb-true _ _ (t 6) | false ↦ eqb-true _ _ (t 7) ];
+      keyword = keyword_of (eqb-true _ _ (t 6)) (eqb-true _ _ (t 7));
     }
+  where
+    keyword_of : value_of keywords (unless true) w ≡ cond (ltb p keywords_from) (unless true) (get_or spellings (p + 1) 0)
+        → value_of keywords (unless false) w ≡ cond (ltb p keywords_from) (unless false) (get_or spellings (p + 1) 0)
+        → (b : Bool) → value_of keywords (unless b) w ≡ cond (ltb p keywords_from) (unless b) (get_or spellings (p + 1) 0)
+    keyword_of y n true = y
+    keyword_of y n false = n
 
 placed : (w : List ℕ) → (place w ≡ 0) ⊎ Right (place w) w
 placed w = ⊎_elim (λ (e : place w ≡ 0). inl e) (λ (h : right (place w) w ≡ true). inr (right_of (place w) w h)) (passes_at right every records_from w all_right)

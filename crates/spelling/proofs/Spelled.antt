@@ -2,7 +2,7 @@
 use Prim.Native.Nat.{ℕ, zero, suc, ◌+◌, ◌≤◌, ◌<◌}
 use mathlib.Core.Path.{◌≡◌, refl, ◌∙◌}
 use mathlib.Core.Bool.{Bool, true}
-use mathlib.Core.List.{List, [], ◌∷◌, ◌++◌, map}
+use mathlib.Core.List.{List, ◌++◌, map}
 use native.Mathlib.Omega.{arith}
 use borrow.Author.Tests.{eqb-true}
 use lib.Dec.{eqb}
@@ -12,7 +12,7 @@ use Rattle.tokens.specs.Name.{decimal, one_of, AllDifferent}
 use Rattle.tokens.specs.Push.{push_byte}
 use Rattle.tokens.proofs.Laws.{below, all_below}
 use Rattle.tokens.proofs.TypeNames.{distinct, all_different}
-use Rattle.spelling.specs.Spelling.{Spelt, spelt, value_of, mnemonics, keywords, opcode_of}
+use Rattle.spelling.specs.Spelling.{spelt, value_of, mnemonics, opcode_of}
 
 -- a word with its number behind it is the mnemonic of the byte so many behind this one
 abbrev numbered : List ℕ → ℕ → ℕ → Bool

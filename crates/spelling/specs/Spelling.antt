@@ -1,5 +1,5 @@
 -- Request [4]: how opcodes, keywords and marks are spelled, and the kinds of words inside and outside braces.
-use Rattle.std.specs.Prelude.{ℕ, ◌+◌, Bool, true, false, cond, List, [], ◌∷◌, ◌++◌, eqb}
+use Rattle.std.specs.Prelude.{ℕ, ◌+◌, true, false, cond, List, [], ◌∷◌, ◌++◌, eqb}
 use Prim.Native.String.{String}
 use Prim.Native.Char.{code}
 use Rattle.tokens.specs.Byte.{same}
