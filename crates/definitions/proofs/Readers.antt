@@ -9,7 +9,7 @@ use lib.ListN.{drop}
 use lib.Seq.{drop-drop}
 use lib.Dec.{eqb}
 use Rattle.tokens.specs.Token.{Token, token_at}
-use Rattle.grammar.specs.Result.{Why, plain, number, beyond, Res, got, bad, refuse, on, stepped, with_one_more, look, expect, counted, joined, seq}
+use Rattle.grammar.specs.Result.{Why, plain, Res, got, bad, refuse, on, stepped, with_one_more, look, expect, counted, joined, seq}
 use Rattle.grammar.specs.Written.{RefusedRead}
 use Rattle.grammar.proofs.AtPlace.{seq_got, seq_bad}
 

@@ -11,7 +11,7 @@ use crate::record::{DefRead, Definition};
 use tokens::{kind, kind_at, number};
 
 // A constant's value: a literal's place, or that of the free storage pointer.
-#[derive(Drop)]
+#[derive(Clone, Copy)]
 pub enum ConstVal {
     Literal(usize),
     FreeStoragePointer(usize),

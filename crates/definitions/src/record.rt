@@ -7,7 +7,7 @@ ghost use Rattle.definitions.specs.Answers.{definition_words, is_named};
 use tokens::{number, put_record};
 
 // A definition's words but the last two, which say where it stands in the text: no reader looks there.
-#[derive(Drop)]
+#[derive(Clone, Copy)]
 pub struct Definition {
     pub kind: u32,
     pub name: u32,

@@ -10,7 +10,7 @@ use lists::{ArgList, Sort, parse_args};
 use tokens::{kind, kind_at, number};
 
 // The place behind it, the inputs and outputs, and a function's type; an event and an error have no outputs and type 0.
-#[derive(Drop)]
+#[derive(Clone, Copy)]
 pub struct Signature {
     pub end: usize,
     pub inputs: usize,
@@ -26,7 +26,7 @@ pub enum Behind {
 }
 
 // What is a list behind its name.
-#[derive(Drop)]
+#[derive(Clone, Copy)]
 pub enum Listed {
     Event,
     Error,

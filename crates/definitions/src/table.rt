@@ -19,7 +19,7 @@ use statements::{Statement, put_statement};
 use tokens::{all_hex, kind, kind_at, number, text_at};
 
 // The three kinds of a table.
-#[derive(Drop)]
+#[derive(Clone, Copy)]
 pub enum TableKind {
     Jump,
     Packed,
