@@ -1,7 +1,7 @@
 // A line's answer: docs/CASES.md, "An answer". The entries are called as programs in other languages call them, so that a case tries those very functions.
 use crate::lend::{Sizes, first_bytes, lent, sizes_of, tokens_of};
 use crate::line::{BODY, LEXER, Line, REFUSED};
-use crate::output::{OUT_ROOM, put_byte, put_list, put_numbers, say};
+use crate::output::{Out, put_byte, put_list, put_numbers, say};
 use crate::room::{
     ARGUMENTS_ROOM, DEFINITIONS_ROOM, KEPT_ROOM, NUMBERS_ROOM, STATEMENTS_ROOM, TEXT_ROOM,
     TOKENS_ROOM,
@@ -71,7 +71,7 @@ fn ask(
 
 // The answer's numbers, then the four lists as they are after the call.
 fn show(
-    out: &mut [u8; OUT_ROOM],
+    out: &mut Out,
     sizes: Sizes,
     answer: [u64; ANSWER_NUMBERS],
     kept: &[u32],
@@ -85,7 +85,7 @@ fn show(
     let fourth = put_list(out, third, statements, sizes.statements);
     let fifth = put_list(out, fourth, arguments, sizes.arguments);
     let last = put_byte(out, fifth, b'\n');
-    say(first_bytes(out, last));
+    say(out.to, first_bytes(&out.buffer, last));
 }
 
 // Has a text cut into tokens, with a list lent as long as the case says.
@@ -94,11 +94,11 @@ fn cut(line: Line, words: u32, text: &[u8], list: &mut [u32], answer: &mut [u64;
 }
 
 // The answer's numbers, then the list as it is after the call.
-fn show_cut(out: &mut [u8; OUT_ROOM], answer: [u64; LEXED_NUMBERS], list: &[u32], words: u32) {
+fn show_cut(out: &mut Out, answer: [u64; LEXED_NUMBERS], list: &[u32], words: u32) {
     let first = put_numbers(out, 0, &answer);
     let second = put_list(out, first, list, words);
     let last = put_byte(out, second, b'\n');
-    say(first_bytes(out, last));
+    say(out.to, first_bytes(&out.buffer, last));
 }
 
 // The answer to a text that is cut into tokens. Its list is lent from the room for statements, which has enough.
@@ -107,14 +107,14 @@ fn answer_text(
     words: u32,
     text: &[u8; TEXT_ROOM],
     list: &mut [u32; STATEMENTS_ROOM],
-    out: &mut [u8; OUT_ROOM],
+    out: &mut Out,
 ) {
     if line.large {
-        say(b"X_TooLarge\n");
+        say(out.to, b"X_TooLarge\n");
         return;
     }
     if TOKENS_ROOM < words as usize {
-        say(b"X_TooLarge\n");
+        say(out.to, b"X_TooLarge\n");
         return;
     }
     let mut answer = [0u64; LEXED_NUMBERS];
@@ -131,15 +131,15 @@ fn answer_case(
     definitions: &mut [u32; DEFINITIONS_ROOM],
     statements: &mut [u32; STATEMENTS_ROOM],
     arguments: &mut [u32; ARGUMENTS_ROOM],
-    out: &mut [u8; OUT_ROOM],
+    out: &mut Out,
 ) {
     let sizes = sizes_of(numbers);
     if !is_case(line, sizes) {
-        say(b"X_NotACase\n");
+        say(out.to, b"X_NotACase\n");
         return;
     }
     if !has_room(line, sizes) {
-        say(b"X_TooLarge\n");
+        say(out.to, b"X_TooLarge\n");
         return;
     }
     let mut answer = [0u64; ANSWER_NUMBERS];
@@ -166,7 +166,7 @@ pub fn answer_line(
     definitions: &mut [u32; DEFINITIONS_ROOM],
     statements: &mut [u32; STATEMENTS_ROOM],
     arguments: &mut [u32; ARGUMENTS_ROOM],
-    out: &mut [u8; OUT_ROOM],
+    out: &mut Out,
 ) {
     if line.entry == LEXER && line.place != REFUSED {
         answer_text(line, numbers[0], text, statements, out);

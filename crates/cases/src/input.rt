@@ -1,6 +1,6 @@
 // The input, a byte at a time, through a buffer.
 use crate::room::least;
-use libc::STDIN_FILENO;
+use std::io::{Read, Stdin};
 
 pub const INPUT_ROOM: usize = 16384;
 
@@ -26,13 +26,15 @@ pub fn new_input() -> Input {
 }
 
 // Reads what comes next into the buffer, and answers how many bytes that is: none at the end of the input, or where it can't be read.
-fn refill(buffer: &mut [u8; INPUT_ROOM]) -> usize {
-    let got = libc::read(STDIN_FILENO, buffer);
-    io::count(got, buffer)
+fn refill(mut from: Stdin, buffer: &mut [u8; INPUT_ROOM]) -> usize {
+    match from.read(buffer) {
+        Ok(came) => came,
+        Err(_) => 0,
+    }
 }
 
 // The next byte. The end of the input counts as a line end where none stands before it, so that a last line without one is answered too.
-pub fn next_byte(input: Input, buffer: &mut [u8; INPUT_ROOM]) -> Input {
+pub fn next_byte(from: Stdin, input: Input, buffer: &mut [u8; INPUT_ROOM]) -> Input {
     let at = input.at;
     let end = least(input.end, INPUT_ROOM);
     if at < end {
@@ -43,7 +45,7 @@ pub fn next_byte(input: Input, buffer: &mut [u8; INPUT_ROOM]) -> Input {
             over: false,
         };
     }
-    let came = refill(buffer);
+    let came = refill(from, buffer);
     if came == 0 {
         return Input {
             at: 0,

@@ -1,5 +1,5 @@
-// The library for programs in other languages: both entries and the lexer under C's calling convention. Numbers pass as themselves, a slice as its pointer and its length in
-// elements, the answer's array as its pointer. `bindings/c/simmerotter.h` and `bindings/rust` declare the same three functions.
+// The library for programs in other languages: both entries and the lexer, their answers as numbers in an array that the caller lends. `simmerotter_c` exports these three
+// functions under C's calling convention; the program `cases` calls them here.
 #![tactic(auto)]
 
 mod values;
@@ -10,12 +10,7 @@ use tokens::number::{ANSWER_NUMBERS, LEXED_NUMBERS};
 use values::{body_values, file_values, lexed_values};
 
 // Cuts a text into tokens: `lexer::lex`, its answer as number, cursor, tokens.
-#[unsafe(no_mangle)]
-pub extern "C" fn simmerotter_lex(
-    text: &[u8],
-    tokens: &mut [u32],
-    answer: &mut [u64; LEXED_NUMBERS],
-)
+pub fn simmerotter_lex(text: &[u8], tokens: &mut [u32], answer: &mut [u64; LEXED_NUMBERS])
     ensures { LexAnswered text.now tokens.old answer.new tokens.new }
 {
     let lexed = lexer::lex(text, tokens);
@@ -23,8 +18,7 @@ pub extern "C" fn simmerotter_lex(
 }
 
 // Reads a whole file in a mode, 0 or 1: `files::read_file`, its answer as number, cursor, definitions, statements, arguments, type, size.
-#[unsafe(no_mangle)]
-pub extern "C" fn simmerotter_read_file(
+pub fn simmerotter_read_file(
     mode: u32,
     text: &[u8],
     tokens: &[u32],
@@ -43,8 +37,7 @@ pub extern "C" fn simmerotter_read_file(
 
 // Reads one body in a mode from place `start` of the kept tokens, and measures it in an edition, 1 or 2: `statements::read_body`, its answer as number, cursor, statements,
 // arguments, plain length, type, size.
-#[unsafe(no_mangle)]
-pub extern "C" fn simmerotter_read_body(
+pub fn simmerotter_read_body(
     mode: u32,
     edition: u32,
     text: &[u8],
