@@ -5,7 +5,7 @@ use crate::room::{FIRST_WORD, NUMBERS_ROOM, least};
 const FILLER: u32 = 2779096485;
 
 // The numbers before the words, in the order in which a line has them: the call's mode, a body's edition, its place, and the lengths of the four lists.
-#[derive(Drop)]
+#[derive(Clone, Copy)]
 pub struct Sizes {
     pub mode: u32,
     // 0 for a file, which has none.

@@ -38,7 +38,7 @@ const MOST_DIGITS: usize = 10;
 const MOST: u64 = 4294967295;
 
 // What is known of a line so far.
-#[derive(Drop)]
+#[derive(Clone, Copy)]
 pub struct Line {
     // Where the next byte stands.
     pub place: usize,
