@@ -1,11 +1,10 @@
 -- Literals: their form, their value and its significant bytes.
 use Rattle.std.specs.Prelude.{ℕ, zero, suc, ◌+◌, ◌%◌, ◌^◌, Bool, cond, ◌&&◌, List, length, take, drop, eqb, ltb}
 use Rattle.tokens.specs.Byte.{bytes, same, all_hex, value_after, between}
-use Rattle.tokens.specs.Number.{longest_literal}
 
 -- document 01, "Well formed": 0x and 1 to 64 hex digits
 unfoldable pub is_literal : List ℕ → Bool
-is_literal text = same (take 2 text) (bytes "0x") && between 3 longest_literal (length text) && all_hex (drop 2 text)
+is_literal text = same (take 2 text) (bytes "0x") && between 3 66 (length text) && all_hex (drop 2 text)
 
 -- the value of the digits behind 0x, in 256 bits: 64 digits are never cut
 unfoldable pub literal_value : List ℕ → ℕ

@@ -3,7 +3,6 @@ ghost use Rattle.std.specs.Prelude.{◌≡◌, ◌-◌, ◌/◌, ◌%◌, ◌^�
 ghost use Rattle.tokens.specs.Byte.{is_hex, digit, all_hex, value_after};
 ghost use Rattle.tokens.specs.Literal.{is_literal, literal_value, is_zero, significant};
 
-use crate::number;
 
 // A hex digit of either case. No branch: which range a byte lies in can't be foreseen.
 pub fn is_hex(c: u8) -> bool
@@ -48,7 +47,7 @@ pub fn is_literal(text: &[u8]) -> bool
     if n < 3 {
         return false;
     }
-    if number::LONGEST_LITERAL < n {
+    if 66 < n {
         return false;
     }
     if text[0] != b'0' {
