@@ -3,7 +3,6 @@ ghost use Rattle.std.specs.Prelude.{◌≡◌, ◌-◌, ◌/◌, ◌%◌, ◌^�
 ghost use Rattle.tokens.specs.Byte.{is_hex, digit, all_hex, value_after};
 ghost use Rattle.tokens.specs.Literal.{is_literal, literal_value, is_zero, significant};
 
-
 // A hex digit of either case. No branch: which range a byte lies in can't be foreseen.
 pub fn is_hex(c: u8) -> bool
     ensures { result ≡ is_hex c }

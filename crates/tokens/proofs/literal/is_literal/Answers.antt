@@ -8,8 +8,8 @@ use Rattle.tokens.proofs.literal.is_literal.Goals as goal
 pub returns-then-n-lt3 : goal.returns-then-n-lt3
 returns-then-n-lt3 c = sym (not_short _ c.if-n-lt3.true)
 
-pub returns-then-n-gt-LONGEST_LITERAL : goal.returns-then-n-gt-LONGEST_LITERAL
-returns-then-n-gt-LONGEST_LITERAL c = sym (not_long c.args.text.now (omega arith))
+pub returns-then-n-gt66 : goal.returns-then-n-gt66
+returns-then-n-gt66 c = sym (not_long c.args.text.now (omega arith))
 
 pub returns-then-text-ne48 : goal.returns-then-text-ne48
 returns-then-text-ne48 c = sym (not_zero _ c.if-n-lt3.false c.if-text-ne48.true)
@@ -22,5 +22,5 @@ returns c =
     let t = c.args.text.now in
     c.all_hex.ensures ∙ ap all_hex (rest_is t 2)
     ∙ sym
-    (by_digits t c.if-n-lt3.false c.if-n-gt-LONGEST_LITERAL.false
+    (by_digits t c.if-n-lt3.false c.if-n-gt66.false
     c.if-text-ne48.false c.if-text-ne120.false)
