@@ -1,4 +1,4 @@
-//! Links the archive that `rt staticlib simmerotter` writes.
+//! Links the archive that `bindings/archive` writes.
 
 use std::env;
 use std::path::{Path, PathBuf};
@@ -18,7 +18,7 @@ fn main() {
     println!("cargo:rustc-link-lib=static=simmerotter");
 }
 
-/// The folder that the variable names, or where `rt` writes the archive.
+/// The folder that the variable names, or where `bindings/archive` puts the archive.
 fn archive_folder() -> PathBuf {
     match env::var_os(FOLDER_VARIABLE) {
         Some(folder) => PathBuf::from(folder),
@@ -32,6 +32,6 @@ fn manifest_folder() -> PathBuf {
 
 fn give_up(archive: &Path) -> ! {
     eprintln!("simmerotter: there is no archive at {}", archive.display());
-    eprintln!("run `rt staticlib simmerotter` first, or set {} to the folder that holds libsimmerotter.a", FOLDER_VARIABLE);
+    eprintln!("run `bindings/archive` first, or set {} to the folder that holds libsimmerotter.a", FOLDER_VARIABLE);
     process::exit(1);
 }
