@@ -1,4 +1,4 @@
-//! What the tests share: the fixed sample, token lists written by hand, lent lists and chance.
+//! What the tests share: the fixed sample, the sample of texts, token lists written by hand, lent lists and chance.
 
 #![allow(dead_code)]
 
@@ -157,24 +157,23 @@ pub fn room_in(mode: Mode) -> Room {
     Setting { mode, edition: Edition::First }.room()
 }
 
-/// Every case of the fixed sample: all of its lines but headings, texts and those that are answered by a single word.
+/// Every case of the fixed sample: all of its lines but headings and those that are answered by a single word.
 pub fn cases() -> Vec<Case> {
-    let (lines, answers) = (sample("stdin"), sample("stdout"));
+    let [lines, answers] = sample("crates/cases");
     assert_eq!(lines.split('\n').count(), answers.lines().count(), "an answer to each line");
     let mut section = "";
     let mut cases = Vec::new();
     for (index, (line, answer)) in lines.split('\n').zip(answers.lines()).enumerate() {
         match line.strip_prefix("# ") {
             Some(heading) => section = heading,
-            // Texts to be cut, with three numbers, are no calls of these two.
-            None if answer.starts_with("X_") || line.starts_with("L ") => {}
+            None if answer.starts_with("X_") => {}
             None => cases.push(case(index + 1, section, line, answer)),
         }
     }
     cases
 }
 
-/// A text of the fixed sample that is cut into tokens, with its answer.
+/// A text of `oracle/texts/stdin` that is cut into tokens, with its answer in `oracle/texts/stdout`.
 pub struct CutCase {
     pub line: usize,
     pub text: Vec<u8>,
@@ -182,9 +181,9 @@ pub struct CutCase {
     pub wanted: Vec<u32>,
 }
 
-/// Every text of the fixed sample that is answered in full.
+/// Every text of the sample of texts that is answered in full.
 pub fn cut_cases() -> Vec<CutCase> {
-    let (lines, answers) = (sample("stdin"), sample("stdout"));
+    let [lines, answers] = sample("oracle/texts");
     let pairs = lines.split('\n').zip(answers.lines()).enumerate();
     let texts = pairs.filter(|(_, (line, answer))| line.starts_with("L ") && !answer.starts_with("X_"));
     texts.map(|(index, (line, answer))| cut_case(index + 1, line, answer)).collect()
@@ -200,9 +199,12 @@ fn cut_case(line: usize, fields: &str, answer: &str) -> CutCase {
     CutCase { line, text: bytes(fields[2]), answer: numbers.try_into().expect("three numbers"), wanted }
 }
 
-fn sample(name: &str) -> String {
-    let path = Path::new(env!("CARGO_MANIFEST_DIR")).join("../../crates/cases").join(name);
-    fs::read_to_string(&path).unwrap_or_else(|error| panic!("{}: {}", path.display(), error))
+/// The lines of a sample, and their answers.
+fn sample(folder: &str) -> [String; 2] {
+    ["stdin", "stdout"].map(|name| {
+        let path = Path::new(env!("CARGO_MANIFEST_DIR")).join("../..").join(folder).join(name);
+        fs::read_to_string(&path).unwrap_or_else(|error| panic!("{}: {}", path.display(), error))
+    })
 }
 
 /// The contracts of examples/, each with its name.
