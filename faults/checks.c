@@ -51,7 +51,8 @@ static bool token_is_good(const struct call *c, const uint32_t *word, uint32_t p
     return own_is_good(c->text, kind, start, end) && extra_is_good(kind, word[3]);
 }
 
-size_t first_bad(const struct call *c, size_t tokens)
+/* The first bad token's number; how many there are, if none is bad. */
+static size_t first_bad(const struct call *c, size_t tokens)
 {
     uint32_t previous_end = 0;
     for (size_t i = 0; i < tokens; i++) {
@@ -148,7 +149,7 @@ static bool still_undefined(const uint32_t *from, size_t bytes)
     return true;
 }
 
-bool untouched(const struct call *c, const uint32_t *list, size_t from, size_t length)
+static bool untouched(const struct call *c, const uint32_t *list, size_t from, size_t length)
 {
     size_t bytes = (length - from) * sizeof *list;
     if (c->undefined) {
@@ -170,7 +171,7 @@ static bool all_untouched(const struct call *c)
 
 /* Words written. */
 
-bool is_defined(const void *at, size_t bytes)
+static bool is_defined(const void *at, size_t bytes)
 {
     (void)at;
     return bytes == 0 || VALGRIND_CHECK_MEM_IS_DEFINED(at, bytes) == 0;
@@ -182,7 +183,7 @@ static bool tables_are_defined(const struct call *c)
            is_defined(c->arguments, c->sizes.arguments * 4);
 }
 
-bool is_zero(const uint32_t *list, size_t from, size_t length)
+static bool is_zero(const uint32_t *list, size_t from, size_t length)
 {
     for (size_t i = from; i < length; i++)
         if (list[i] != 0)
@@ -635,8 +636,7 @@ static uint64_t mixed(uint64_t sum, const void *at, size_t bytes)
 
 uint64_t digest(const struct call *c)
 {
-    size_t numbers = c->lexer ? LEX_ANSWER_NUMBERS : ANSWER_NUMBERS;
-    uint64_t sum = mixed(0xcbf29ce484222325u, c->answer, numbers * sizeof *c->answer);
+    uint64_t sum = mixed(0xcbf29ce484222325u, c->answer, ANSWER_NUMBERS * sizeof *c->answer);
     sum = mixed(sum, c->text, c->text_len);
     sum = mixed(sum, c->tokens, c->tokens_len * 4);
     sum = mixed(sum, c->kept, c->sizes.kept * 4);

@@ -1,13 +1,12 @@
 /*
  * Random calls of the library, each with lists of exactly the sizes lent, each answer tested by document 01.
  *
- *   faults SEED COUNT [--texts] [--guards] [--from N]
+ *   faults SEED COUNT [--guards] [--from N]
  *
  * COUNT cases, from case N on (0 if none is given). A case is called three times: with room for all, to learn what
- * it needs; with table sizes chosen by chance; and so again, which has to give the same. With --texts the cases are
- * texts for the lexer, and what it has cut is read. With --guards the lists lie in pages of their own next to forbidden
- * ones, the inputs in pages that can only be read. The first broken rule or fault ends the run with status 1 and names
- * seed and case, so that `faults SEED 1 --from CASE` repeats it.
+ * it needs; with table sizes chosen by chance; and so again, which has to give the same. With --guards the lists lie
+ * in pages of their own next to forbidden ones, the inputs in pages that can only be read. The first broken rule or
+ * fault ends the run with status 1 and names seed and case, so that `faults SEED 1 --from CASE` repeats it.
  */
 #define _GNU_SOURCE
 #include <inttypes.h>
@@ -17,9 +16,24 @@
 #include <string.h>
 #include <unistd.h>
 
+#include "checks.h"
+#include "kinds.h"
 #include "memcheck.h"
-#include "search.h"
 #include "sizing.h"
+
+enum { NUMBERS = 39 };
+
+struct search {
+    uint64_t seed, number;
+    struct maker maker;
+    struct lender lender;
+    /* What the chosen call left, for the call that repeats it. */
+    uint64_t answer[ANSWER_NUMBERS];
+    uint32_t *tables;
+    size_t tables_room;
+    /* Counts. */
+    uint64_t calls, large, files[NUMBERS], bodies[NUMBERS];
+};
 
 /* Which case is under way, for the handler of a fault. */
 static struct search running;
@@ -32,47 +46,33 @@ static void print_words(const char *name, const uint32_t *words, size_t length)
     fprintf(stderr, "\n");
 }
 
-static void print_text(const struct maker *m)
+static void print_case(const struct search *s, const struct call *c)
 {
-    fprintf(stderr, "  family %s, text of %zu bytes:", m->family, m->text_len);
+    const struct maker *m = &s->maker;
+    fprintf(stderr, "  %s, family %s, mode %" PRIu32 ", edition %" PRIu32 ", start %" PRIu64 ", text of %zu bytes:",
+            m->body ? "body" : "file", m->family, m->mode, m->edition, m->start, m->text_len);
     for (size_t i = 0; i < m->text_len && i < 2000; i++)
         fprintf(stderr, " %02x", m->text[i]);
     fprintf(stderr, "\n");
-}
-
-static void print_answer(const struct call *c)
-{
+    print_words("tokens", m->words, m->words_len);
+    fprintf(stderr, "  lent: kept %zu, definitions %zu, statements %zu, arguments %zu\n", c->sizes.kept,
+            c->sizes.definitions, c->sizes.statements, c->sizes.arguments);
     fprintf(stderr, "  answer:");
-    for (int i = 0; i < (c->lexer ? LEX_ANSWER_NUMBERS : ANSWER_NUMBERS); i++)
+    for (int i = 0; i < ANSWER_NUMBERS; i++)
         fprintf(stderr, " %" PRIu64, c->answer[i]);
     fprintf(stderr, "\n");
 }
 
-static void print_case(const struct search *s, const struct call *c)
-{
-    const struct maker *m = &s->maker;
-    print_text(m);
-    if (c->lexer) {
-        print_words("the lent list afterwards", c->tokens, c->tokens_len);
-    } else {
-        fprintf(stderr, "  %s, mode %" PRIu32 ", edition %" PRIu32 ", start %" PRIu64 "\n", m->body ? "body" : "file", m->mode,
-                m->edition, m->start);
-        print_words("tokens", m->words, m->words_len);
-        fprintf(stderr, "  lent: kept %zu, definitions %zu, statements %zu, arguments %zu\n", c->sizes.kept,
-                c->sizes.definitions, c->sizes.statements, c->sizes.arguments);
-    }
-    print_answer(c);
-}
-
-void stop(const struct search *s, const struct call *c, const char *which, const char *rule)
+static void stop(const struct search *s, const struct call *c, const char *which, const char *rule)
 {
     fprintf(stderr, "seed %" PRIu64 " case %" PRIu64 ", %s call: broken: %s\n", s->seed, s->number, which, rule);
     print_case(s, c);
     exit(1);
 }
 
-void stop_if_broken(const struct search *s, const struct call *c, const char *which, const char *rule)
+static void test_call(struct search *s, const struct call *c, const char *which)
 {
+    const char *rule = broken_rule(c, &s->maker);
     if (rule == NULL && !surroundings_kept(&s->lender))
         rule = "nothing next to what is lent is written";
     if (rule == NULL && VALGRIND_COUNT_ERRORS != 0)
@@ -81,7 +81,8 @@ void stop_if_broken(const struct search *s, const struct call *c, const char *wh
         stop(s, c, which, rule);
 }
 
-void do_call(struct search *s, struct sizes sizes, struct call *c, const char *which)
+/* Lends, calls and tests. What is lent stays lent until it is given back. */
+static void do_call(struct search *s, struct sizes sizes, struct call *c, const char *which)
 {
     struct chance *chance = &s->lender.chance;
     uint32_t stain = (uint32_t)draw(chance) | 1;
@@ -89,7 +90,7 @@ void do_call(struct search *s, struct sizes sizes, struct call *c, const char *w
     lend(&s->lender, &s->maker, sizes, stain, undefined, c);
     run_call(c);
     s->calls++;
-    stop_if_broken(s, c, which, broken_rule(c, &s->maker));
+    test_call(s, c, which);
 }
 
 static struct need need_of(const struct call *c, struct chance *chance)
@@ -140,20 +141,16 @@ static size_t table_words(const struct call *c)
     return c->sizes.definitions + c->sizes.statements + c->sizes.arguments;
 }
 
-void keep_tables_room(struct search *s, size_t words)
-{
-    if (words <= s->tables_room)
-        return;
-    s->tables = realloc(s->tables, words * sizeof *s->tables);
-    s->tables_room = words;
-    if (s->tables == NULL)
-        exit(2);
-}
-
 static void remember(struct search *s, const struct call *c)
 {
+    size_t words = table_words(c);
     memcpy(s->answer, c->answer, sizeof s->answer);
-    keep_tables_room(s, table_words(c));
+    if (words > s->tables_room) {
+        s->tables = realloc(s->tables, words * sizeof *s->tables);
+        s->tables_room = words;
+        if (s->tables == NULL)
+            exit(2);
+    }
     memcpy(s->tables, c->definitions, c->sizes.definitions * 4);
     memcpy(s->tables + c->sizes.definitions, c->statements, c->sizes.statements * 4);
     memcpy(s->tables + c->sizes.definitions + c->sizes.statements, c->arguments, c->sizes.arguments * 4);
@@ -178,7 +175,7 @@ static void test_again(const struct search *s, const struct call *c)
         stop(s, c, "repeated", "the same call leaves the same tables");
 }
 
-void count_reading(struct search *s, const struct call *c)
+static void count_answer(struct search *s, const struct call *c)
 {
     uint64_t *counts = c->body ? s->bodies : s->files;
     counts[c->answer[0]]++;
@@ -189,6 +186,8 @@ static void do_case(struct search *s)
     struct call call;
     uint64_t roomy[ANSWER_NUMBERS];
     make_case(&s->maker, s->seed, s->number);
+    s->lender.chance = stream(~s->seed, s->number);
+    s->large += s->number % LARGE_EVERY == LARGE_AT;
 
     do_call(s, roomy_sizes(&s->maker), &call, "roomy");
     if (call.answer[0] >= 32 && call.answer[0] <= 34)
@@ -200,7 +199,7 @@ static void do_case(struct search *s)
     struct sizes sizes = chosen_sizes(&s->maker.chance, s->maker.body, need);
     do_call(s, sizes, &call, "chosen");
     test_chosen(s, roomy, need, &call);
-    count_reading(s, &call);
+    count_answer(s, &call);
     remember(s, &call);
     give_back(&s->lender);
 
@@ -213,10 +212,11 @@ static void print_counts(const struct search *s, uint64_t cases)
 {
     printf("seed %" PRIu64 ": %" PRIu64 " cases, %" PRIu64 " of them large, %" PRIu64 " calls, no rule broken\n", s->seed,
            cases, s->large, s->calls);
-    printf("number      files     bodies      texts\n");
+    printf("number      files     bodies        all\n");
     for (int i = 0; i < NUMBERS; i++)
-        if (s->files[i] + s->bodies[i] + s->texts[i] != 0)
-            printf("%6d %10" PRIu64 " %10" PRIu64 " %10" PRIu64 "\n", i, s->files[i], s->bodies[i], s->texts[i]);
+        if (s->files[i] + s->bodies[i] != 0)
+            printf("%6d %10" PRIu64 " %10" PRIu64 " %10" PRIu64 "\n", i, s->files[i], s->bodies[i],
+                   s->files[i] + s->bodies[i]);
 }
 
 /* A fault is a broken rule too: it names its case before the program ends. */
@@ -253,9 +253,9 @@ static uint64_t number_argument(const char *word)
 int main(int words, char **word)
 {
     uint64_t count, from = 0;
-    bool guards = false, texts = false;
+    bool guards = false;
     if (words < 3) {
-        fprintf(stderr, "usage: faults SEED COUNT [--texts] [--guards] [--from N]\n");
+        fprintf(stderr, "usage: faults SEED COUNT [--guards] [--from N]\n");
         return 2;
     }
     running.seed = number_argument(word[1]);
@@ -263,8 +263,6 @@ int main(int words, char **word)
     for (int i = 3; i < words; i++) {
         if (strcmp(word[i], "--guards") == 0)
             guards = true;
-        else if (strcmp(word[i], "--texts") == 0)
-            texts = true;
         else if (strcmp(word[i], "--from") == 0 && i + 1 < words)
             from = number_argument(word[++i]);
         else
@@ -274,14 +272,8 @@ int main(int words, char **word)
     lender_open(&running.lender, guards, running.seed);
     if (guards)
         catch_faults();
-    for (running.number = from; running.number < from + count; running.number++) {
-        running.lender.chance = stream(~running.seed, running.number);
-        running.large += running.number % LARGE_EVERY == LARGE_AT;
-        if (texts)
-            do_text(&running);
-        else
-            do_case(&running);
-    }
+    for (running.number = from; running.number < from + count; running.number++)
+        do_case(&running);
     print_counts(&running, count);
     lender_close(&running.lender);
     maker_close(&running.maker);

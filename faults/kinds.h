@@ -13,8 +13,8 @@ enum kind {
 
 enum { MOST_TEXT = 1048576, MOST_TOKENS = 65536, TOKEN = 4, DEFINITION = 14, STATEMENT = 8, ARGUMENT = 7 };
 
-/* Number, cursor, three counts, type, size; of the lexer number, cursor, tokens. */
-enum { ANSWER_NUMBERS = 7, LEX_ANSWER_NUMBERS = 3 };
+/* Number, cursor, three counts, type, size. */
+enum { ANSWER_NUMBERS = 7 };
 
 /* The types that a name can be. */
 enum type { NO_TYPE, TYPE_ADDRESS, TYPE_BOOL, TYPE_STRING, TYPE_BYTES, TYPE_UINT, TYPE_INT, TYPE_BYTES_N };

@@ -10,8 +10,7 @@
 #include "kinds.h"
 #include "memcheck.h"
 
-_Static_assert(SIMMEROTTER_ANSWER_NUMBERS == ANSWER_NUMBERS && SIMMEROTTER_LEX_ANSWER_NUMBERS == LEX_ANSWER_NUMBERS,
-               "the header's answers are those that are lent and tested");
+_Static_assert(SIMMEROTTER_ANSWER_NUMBERS == ANSWER_NUMBERS, "the header's answers are those that are lent and tested");
 _Static_assert(SIMMEROTTER_DEFINITION_WORDS == DEFINITION && SIMMEROTTER_STATEMENT_WORDS == STATEMENT &&
                    SIMMEROTTER_ARGUMENT_WORDS == ARGUMENT,
                "the header's records are those that are lent and tested");
@@ -41,7 +40,7 @@ static void area_open(struct area *a)
         fail("mmap");
     a->first = at + PAGE;
     a->end = a->first + bytes;
-    a->open = a->shut = a->at = a->first;
+    a->open = a->shut = a->first;
 }
 
 void lender_open(struct lender *l, bool guards, uint64_t seed)
@@ -139,21 +138,9 @@ void lend(struct lender *l, const struct maker *m, struct sizes sizes, uint32_t 
     call->answer = (uint64_t *)lend_words(l, ANSWER, 2 * ANSWER_NUMBERS, call);
 }
 
-void lend_text(struct lender *l, const struct maker *m, size_t tokens_len, uint32_t stain, bool undefined,
-               struct call *call)
-{
-    *call = (struct call){.lexer = true, .text_len = m->text_len, .tokens_len = tokens_len, .stain = stain,
-                          .undefined = undefined};
-    call->text = lend_input(l, TEXT, m->text, m->text_len);
-    call->tokens = lend_words(l, TOKENS, tokens_len, call);
-    call->answer = (uint64_t *)lend_words(l, ANSWER, 2 * LEX_ANSWER_NUMBERS, call);
-}
-
 void run_call(const struct call *c)
 {
-    if (c->lexer)
-        simmerotter_lex(c->text, c->text_len, c->tokens, c->tokens_len, c->answer);
-    else if (c->body)
+    if (c->body)
         simmerotter_read_body(c->mode, c->edition, c->text, c->text_len, c->tokens, c->tokens_len, (size_t)c->start,
                               c->kept, c->sizes.kept, c->statements, c->sizes.statements, c->arguments,
                               c->sizes.arguments, c->answer);
@@ -183,9 +170,6 @@ bool surroundings_kept(const struct lender *l)
 
 void give_back(struct lender *l)
 {
-    for (int part = 0; !l->guards && part < PARTS; part++) {
+    for (int part = 0; !l->guards && part < PARTS; part++)
         free(l->areas[part].at);
-        /* The next call may not lend this part. */
-        l->areas[part].at = NULL;
-    }
 }

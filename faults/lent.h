@@ -26,13 +26,11 @@ struct lender {
 };
 
 struct call {
-    /* Which of the three functions: the lexer, else a body's reader, else a file's. */
-    bool lexer, body;
+    bool body;
     uint32_t mode, edition;
     uint64_t start;
     uint8_t *text;
     size_t text_len;
-    /* Read, or written by the lexer. */
     uint32_t *tokens;
     size_t tokens_len;
     uint32_t *kept, *definitions, *statements, *arguments;
@@ -49,10 +47,6 @@ void lender_close(struct lender *l);
 
 void lend(struct lender *l, const struct maker *m, struct sizes sizes, uint32_t stain, bool undefined,
           struct call *call);
-
-/* For the lexer: the maker's text, and a token list of so many words. */
-void lend_text(struct lender *l, const struct maker *m, size_t tokens_len, uint32_t stain, bool undefined,
-               struct call *call);
 
 /* Calls the library. */
 void run_call(const struct call *call);

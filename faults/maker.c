@@ -750,7 +750,8 @@ static uint64_t any_start(struct maker *m)
     return below(&m->chance, (uint32_t)tokens + 3);
 }
 
-uint64_t brace_start(struct maker *m)
+/* The place of one of the braces, by chance; any start if there is none. */
+static uint64_t brace_start(struct maker *m)
 {
     uint64_t place = 0, found = 0, seen = 0;
     for (size_t i = 0; i + 4 <= m->words_len; i += 4) {

@@ -37,9 +37,6 @@ void maker_close(struct maker *m);
 /* Every so many cases one has a list or a text near the largest sizes. */
 enum { LARGE_EVERY = 20000, LARGE_AT = 19 };
 
-/* The place of one of the braces of the word list, by chance; any start if there is none. */
-uint64_t brace_start(struct maker *m);
-
 /* The case of this number; the same seed and number give the same case. */
 void make_case(struct maker *m, uint64_t seed, uint64_t number);
 

@@ -59,27 +59,3 @@ struct sizes chosen_sizes(struct chance *c, bool body, struct need n)
         s.definitions = 0;
     return s;
 }
-
-size_t roomy_words(const struct maker *m)
-{
-    size_t tokens = m->text_len + 1;
-    return TOKEN * (tokens < MOST_TOKENS ? tokens : MOST_TOKENS);
-}
-
-size_t chosen_words(struct chance *c, size_t tokens)
-{
-    /* More than a list can have is not lent, but for a little. */
-    size_t exact = TOKEN * (tokens < MOST_TOKENS + 8 ? tokens : MOST_TOKENS + 8);
-    switch (below(c, 16)) {
-    case 0: return exact - 1;
-    case 1: return exact - TOKEN;
-    case 2: return exact - TOKEN + below(c, TOKEN);
-    case 3: return 0;
-    case 4: return below(c, TOKEN);
-    case 5: return below(c, (uint32_t)exact);
-    case 6: return exact + 1 + below(c, TOKEN - 1);
-    case 7: return exact + TOKEN;
-    case 8: return exact + below(c, 200);
-    default: return exact;
-    }
-}

@@ -1,4 +1,4 @@
-/* Table sizes for a case, and the size of the token list for a text. */
+/* Table sizes for a case. */
 #ifndef SIZING_H
 #define SIZING_H
 
@@ -14,11 +14,5 @@ struct sizes roomy_sizes(const struct maker *m);
 
 /* Exactly right, a word or a record off, odd, small, none or large; by chance. */
 struct sizes chosen_sizes(struct chance *c, bool body, struct need need);
-
-/* Words that always suffice for a text, unless no list does: a token has a byte or more, but for Eof. */
-size_t roomy_words(const struct maker *m);
-
-/* For a text that needs so many tokens: words as above, by chance; one token at least is needed. */
-size_t chosen_words(struct chance *c, size_t tokens);
 
 #endif

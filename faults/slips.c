@@ -18,7 +18,6 @@ void __real_simmerotter_read_body(uint32_t mode, uint32_t edition, const uint8_t
                                   const uint32_t *tokens, size_t tokens_len, size_t start, uint32_t *kept,
                                   size_t kept_len, uint32_t *statements, size_t statements_len, uint32_t *arguments,
                                   size_t arguments_len, uint64_t *answer);
-void __real_simmerotter_lex(const uint8_t *text, size_t text_len, uint32_t *tokens, size_t tokens_len, uint64_t *answer);
 void __wrap_simmerotter_read_file(uint32_t mode, const uint8_t *text, size_t text_len, const uint32_t *tokens,
                                   size_t tokens_len, uint32_t *kept, size_t kept_len, uint32_t *definitions,
                                   size_t definitions_len, uint32_t *statements, size_t statements_len,
@@ -27,7 +26,6 @@ void __wrap_simmerotter_read_body(uint32_t mode, uint32_t edition, const uint8_t
                                   const uint32_t *tokens, size_t tokens_len, size_t start, uint32_t *kept,
                                   size_t kept_len, uint32_t *statements, size_t statements_len, uint32_t *arguments,
                                   size_t arguments_len, uint64_t *answer);
-void __wrap_simmerotter_lex(const uint8_t *text, size_t text_len, uint32_t *tokens, size_t tokens_len, uint64_t *answer);
 
 /* Accesses that the compiler may not leave out. */
 static volatile uint32_t seen;
@@ -177,48 +175,4 @@ void __wrap_simmerotter_read_body(uint32_t mode, uint32_t edition, const uint8_t
         __real_simmerotter_read_body(0, edition, text, text_len, tokens, tokens_len, start, kept, kept_len, statements,
                                      statements_len, arguments, arguments_len, answer);
     slip(text, text_len, tokens, tokens_len, kept, kept_len, arguments, arguments_len, answer);
-}
-
-/* Of tokens of one kind: ranges that begin and end so many bytes further on. */
-static void move_ranges(uint32_t *tokens, const uint64_t *answer, uint32_t kind, int start, int end)
-{
-    for (uint64_t i = 0; answer[0] == 0 && i < answer[2]; i++) {
-        uint32_t *word = tokens + SIMMEROTTER_TOKEN_WORDS * i;
-        if (word[SIMMEROTTER_TOKEN_KIND] == kind) {
-            word[SIMMEROTTER_TOKEN_START] += (uint32_t)start;
-            word[SIMMEROTTER_TOKEN_END] += (uint32_t)end;
-        }
-    }
-}
-
-/* Of the lexer: a byte read behind the text, a word written behind the list, a list written though the text is refused, a
- * last word that is not zero, not written, or written with what it held; Eof not counted by 43; strings with their quotes,
- * comments without their last byte; what is not closed answered as what starts nothing. */
-static void slip_in_lexer(const uint8_t *text, size_t text_len, uint32_t *tokens, size_t tokens_len, uint64_t *answer)
-{
-    int refused = answer[0] != 0 && tokens_len > 0;
-    int spare = answer[0] == 0 && tokens_len > SIMMEROTTER_TOKEN_WORDS * answer[2];
-    switch (chosen_slip()) {
-    case 32: use(((const volatile uint8_t *)text)[text_len]); break;
-    case 33: tokens[tokens_len] = 0; break;
-    case 34: if (refused) tokens[0] = 0; break;
-    case 35: if (spare) tokens[tokens_len - 1] = 4; break;
-    case 36: if (spare) VALGRIND_MAKE_MEM_UNDEFINED(tokens + tokens_len - 1, 4); break;
-    case 37: if (refused) VALGRIND_MAKE_MEM_DEFINED(tokens, 4); break;
-    case 38: answer[1] -= answer[0] == 43; break;
-    case 39: move_ranges(tokens, answer, SIMMEROTTER_KIND_STR, -1, 1); break;
-    case 40: move_ranges(tokens, answer, SIMMEROTTER_KIND_COMMENT, 0, -1); break;
-    case 41: answer[0] -= answer[0] == 41; break;
-    default: break;
-    }
-}
-
-/* Slip 42 is what a library would do that wants a token of room more than it needs. */
-void __wrap_simmerotter_lex(const uint8_t *text, size_t text_len, uint32_t *tokens, size_t tokens_len, uint64_t *answer)
-{
-    size_t held = chosen_slip() == 42 && tokens_len >= SIMMEROTTER_TOKEN_WORDS ? SIMMEROTTER_TOKEN_WORDS : 0;
-    __real_simmerotter_lex(text, text_len, tokens, tokens_len - held, answer);
-    if (held != 0 && answer[0] == 0)
-        memset(tokens + tokens_len - held, 0, held * sizeof *tokens);
-    slip_in_lexer(text, text_len, tokens, tokens_len, answer);
 }

@@ -1,10 +1,10 @@
 /*
- * The same calls from several threads at once, of readers and lexer, each with its own lists: every call has to leave
- * what it leaves when there is one thread.
+ * The same calls from several threads at once, each with its own lists: every call has to leave what it leaves when
+ * there is one thread.
  *
  *   threads SEED COUNT
  *
- * Each thread makes all COUNT cases, each with the text of the same number, and begins at another one, so that different cases are under way together, then
+ * Each thread makes all COUNT cases and begins at another one, so that different cases are under way together, then
  * again from the first one on, so that the same case is. Status 1 if a call differs from that of the single thread, or
  * breaks a rule of document 01.
  */
@@ -16,9 +16,7 @@
 #include <string.h>
 
 #include "checks.h"
-#include "cuts.h"
 #include "sizing.h"
-#include "texts.h"
 
 enum { MOST_THREADS = 4 };
 
@@ -42,7 +40,7 @@ static struct need needed(const struct call *c)
 static void call_and_test(struct call *c, const struct maker *m, uint64_t seed, uint64_t number)
 {
     run_call(c);
-    const char *rule = c->lexer ? broken_cut(c, m) : broken_rule(c, m);
+    const char *rule = broken_rule(c, m);
     if (rule != NULL) {
         fprintf(stderr, "seed %" PRIu64 " case %" PRIu64 ": broken: %s\n", seed, number, rule);
         exit(1);
@@ -67,24 +65,6 @@ static uint64_t case_digest(struct maker *m, struct lender *l, uint64_t seed, ui
     return sum;
 }
 
-/* Digest of a text's two calls likewise. */
-static uint64_t text_digest(struct maker *m, struct lender *l, uint64_t seed, uint64_t number)
-{
-    struct call call;
-    make_text(m, seed, number);
-    uint32_t stain = (uint32_t)draw(&m->chance) | 1;
-    lend_text(l, m, roomy_words(m), stain, false, &call);
-    call_and_test(&call, m, seed, number);
-    uint64_t sum = digest(&call);
-    size_t words = chosen_words(&m->chance, call.answer[0] == 0 ? call.answer[2] : 2);
-    give_back(l);
-    lend_text(l, m, words, stain, false, &call);
-    call_and_test(&call, m, seed, number);
-    sum = sum * 31 + digest(&call);
-    give_back(l);
-    return sum;
-}
-
 static void *work(void *argument)
 {
     struct worker *w = argument;
@@ -97,7 +77,6 @@ static void *work(void *argument)
     for (uint64_t i = 0; i < w->count; i++) {
         uint64_t number = (w->first + i) % w->count;
         w->digests[number] = case_digest(&maker, &lender, w->seed, number);
-        w->digests[number] = w->digests[number] * 31 + text_digest(&maker, &lender, w->seed, number);
     }
     lender_close(&lender);
     maker_close(&maker);
@@ -164,7 +143,7 @@ int main(int words, char **word)
     }
     free(alone.digests);
     if (same)
-        printf("seed %" PRIu64 ": %" PRIu64 " cases and as many texts, two calls each: the same with one, two and four threads\n",
-               alone.seed, alone.count);
+        printf("seed %" PRIu64 ": %" PRIu64 " cases, two calls each: the same with one, two and four threads\n", alone.seed,
+               alone.count);
     return same ? 0 : 1;
 }

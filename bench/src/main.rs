@@ -4,16 +4,13 @@
 //!     bench --names      the test for repeated names alone: microseconds a file, by the number of macros
 //!     bench --strict     mode 1 against mode 0 on the same lists, and how it grows with the labels
 //!     bench --editions   edition 2 against edition 1 on the same bodies
-//!     bench --texts      texts: to tokens, and to records against the Rust's parser on ready tokens
 //!     bench --quick      short lists and few rounds: whether all of it runs, not figures
 //!
 //! What is timed: on one side a call of `simmerotter_read_file`, for a body of `simmerotter_read_body`, with tables of exactly the need, which it zeroes itself, in mode 0 and edition 1; on the other `Parser::new(list, None)` and
 //! `parse()` or `parse_body()`, whose list was cloned before, once without and once with the freeing of the list and of what was read: the library has nothing to free. Beside them a call
 //! that makes its own room (`Room`), and a bare pass that adds up the token list's words.
 
-mod lexing;
 mod shapes;
-mod texts;
 mod timing;
 #[allow(dead_code)]
 #[path = "../../oracle/driver/src/tokens.rs"]
@@ -26,7 +23,6 @@ use simmerotter::{
     raw::{self, Answer},
     Room, NONE,
 };
-use texts::Limits;
 use timing::{black_box, sample, spread, Spread};
 
 /// The numbers that say how a call reads: its mode, and the edition of a body's plain length, which a file call doesn't take.
@@ -129,30 +125,10 @@ struct Pace {
     round: usize,
     rounds: usize,
     growth_rounds: usize,
-    /// Of the texts.
-    limits: Limits,
-    /// Bytes of text that are read in a round.
-    round_bytes: usize,
 }
 
-const FULL: Pace = Pace {
-    tokens: 60_000,
-    sizes: &[1_000, 2_000, 4_000, 8_000, 16_000, 32_000, 64_000],
-    round: 200_000,
-    rounds: 15,
-    growth_rounds: 7,
-    limits: Limits::WHOLE,
-    round_bytes: 2_000_000,
-};
-const QUICK: Pace = Pace {
-    tokens: 6_000,
-    sizes: &[1_000, 2_000, 4_000],
-    round: 12_000,
-    rounds: 2,
-    growth_rounds: 1,
-    limits: Limits { bytes: 60_000, tokens: 12_000 },
-    round_bytes: 20_000,
-};
+const FULL: Pace = Pace { tokens: 60_000, sizes: &[1_000, 2_000, 4_000, 8_000, 16_000, 32_000, 64_000], round: 200_000, rounds: 15, growth_rounds: 7 };
+const QUICK: Pace = Pace { tokens: 6_000, sizes: &[1_000, 2_000, 4_000], round: 12_000, rounds: 2, growth_rounds: 1 };
 
 fn measure(list: &List, round: usize, rounds: usize) -> Times {
     let built = tokens::build(&list.text, &list.words).expect("tokens that the Rust can hold");
@@ -337,9 +313,6 @@ fn main() {
     if asked("--editions") {
         return editions(&pace);
     }
-    if asked("--texts") {
-        return lexing::texts(&pace);
-    }
     ratios(&pace);
     growth(&pace);
     if asked("--quick") {
@@ -347,7 +320,5 @@ fn main() {
         strict(&pace);
         println!();
         editions(&pace);
-        println!();
-        lexing::texts(&pace);
     }
 }

@@ -1,8 +1,5 @@
 //! The token lists that are measured. Each shape grows to about as many tokens as asked for, and every list is one that the Rust accepts too, and mode 1: in a label every
-//! value push has its literal, and no two labels of a body have the same name. And it is the list that the lexer makes of its text, but for white space.
-
-use crate::texts::needed;
-use simmerotter::raw::{self, LexAnswer};
+//! value push has its literal, and no two labels of a body have the same name.
 
 /// A text and its token list, four words a token.
 pub struct List {
@@ -10,8 +7,7 @@ pub struct List {
     pub words: Vec<u32>,
     /// Whether it is a body, read by a body call from its first place, and not a file.
     pub is_body: bool,
-    /// Whether white space is among the tokens.
-    pub white: bool,
+    white: bool,
 }
 
 // Kinds by document 01's numbers.
@@ -52,24 +48,6 @@ impl List {
         List { text: Vec::new(), words: Vec::new(), is_body: false, white }
     }
 
-    /// A text and its tokens by the lexer.
-    pub fn cut(text: Vec<u8>, is_body: bool) -> List {
-        let mut list = List { words: vec![0; 4 * needed(&text)], text, is_body, white: true };
-        let [number, ..] = list.cut_again();
-        assert_eq!(number, 0);
-        list
-    }
-
-    /// Cuts the text anew, into the same list.
-    pub fn cut_again(&mut self) -> LexAnswer {
-        raw::lex(&self.text, &mut self.words)
-    }
-
-    /// The words of all tokens but white space.
-    pub fn without_space(&self) -> Vec<u32> {
-        self.words.chunks_exact(4).filter(|token| token[0] != WHITESPACE).flatten().copied().collect()
-    }
-
     /// How many tokens.
     pub fn tokens(&self) -> usize {
         self.words.len() / 4
@@ -100,13 +78,6 @@ impl List {
         self.put(OPCODE, own, byte)
     }
 
-    /// Directly behind its label, where alone a lexer knows the word for one.
-    fn colon(&mut self) -> &mut List {
-        assert!(!self.white);
-        self.text.pop();
-        self.put(COLON, ":", 0)
-    }
-
     fn eof(mut self) -> List {
         let at = self.text.len() as u32;
         self.words.extend_from_slice(&[0, at, at, 0]);
@@ -131,7 +102,7 @@ impl List {
 
     /// A label with one opcode, three tokens.
     fn labelled(&mut self, name: &str) -> &mut List {
-        self.put(LABEL, name, 0).colon().opcode("jumpdest", 0x5b)
+        self.put(LABEL, name, 0).put(COLON, ":", 0).opcode("jumpdest", 0x5b)
     }
 
     fn close(&mut self) -> &mut List {
@@ -157,7 +128,7 @@ impl List {
         let mut i = 0;
         while self.tokens() + 10 < tokens {
             if i % 16 == 15 {
-                self.put(LABEL, &format!("step_{i}"), 0).colon();
+                self.put(LABEL, &format!("step_{i}"), 0).put(COLON, ":", 0);
             }
             if constants || i % 8 != CONSTANT_ITEM {
                 self.items(i);

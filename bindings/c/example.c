@@ -1,8 +1,7 @@
 /*
  * Reads bodies and files, and checks every number and word that the calls leave: the examples of docs/CASES.md, where a definition
- * stands in the text, what modes and editions differ in, and which type it was whose name no argument may have. Then cuts texts, each
- * of the lexer's refusals among them. Every lent list has a length of its own, so that arguments in another order than the archive's
- * would be seen.
+ * stands in the text, what modes and editions differ in, and which type it was whose name no argument may have. Every lent list has
+ * a length of its own, so that arguments in another order than the archive's would be seen.
  */
 #include <stdio.h>
 #include <string.h>
@@ -37,20 +36,15 @@ static void expect_words(const char *what, const uint32_t *got, const uint32_t *
     }
 }
 
-static void expect_numbers(const char *what, const uint64_t *got, const uint64_t *wanted, size_t length)
+static void expect_answer(const char *what, const uint64_t *got, const uint64_t *wanted)
 {
-    for (size_t i = 0; i < length; i++) {
+    for (size_t i = 0; i < SIMMEROTTER_ANSWER_NUMBERS; i++) {
         if (got[i] != wanted[i]) {
             printf("%s, answer at %zu: wanted %llu, got %llu\n", what, i, (unsigned long long)wanted[i],
                 (unsigned long long)got[i]);
             failures++;
         }
     }
-}
-
-static void expect_answer(const char *what, const uint64_t *got, const uint64_t *wanted)
-{
-    expect_numbers(what, got, wanted, SIMMEROTTER_ANSWER_NUMBERS);
 }
 
 /* { PUSH1 0xff }: a kept list of six words, two records and a word of statements, no argument record but a word. */
@@ -300,77 +294,6 @@ static void read_types(void)
     read_type("{ f(a bytes99) }", SIMMEROTTER_KIND_PRIMITIVE_TYPE, SIMMEROTTER_TYPE_NONE, 0);
 }
 
-/* A text into a list of so many words; what is expected is the answer and the whole list. */
-static void cut(const char *what, const char *text, size_t text_len, uint32_t *tokens, size_t tokens_len, const uint64_t *wanted,
-    const uint32_t *wanted_tokens)
-{
-    uint64_t answer[SIMMEROTTER_LEX_ANSWER_NUMBERS];
-
-    for (size_t i = 0; i < LENGTH(answer); i++)
-        answer[i] = FILL;
-    fill(tokens, tokens_len);
-    simmerotter_lex((const uint8_t *)text, text_len, tokens, tokens_len, answer);
-    expect_numbers(what, answer, wanted, LENGTH(answer));
-    expect_words(what, tokens, wanted_tokens, tokens_len);
-}
-
-/* `{add}` into a list that has room for it, a token and two words more; and into one that lacks a word. */
-static void cut_and_fill(void)
-{
-    static const char text[] = "{add}";
-    static const uint64_t accepted[SIMMEROTTER_LEX_ANSWER_NUMBERS] = {
-        [SIMMEROTTER_NUMBER] = SIMMEROTTER_ACCEPTED,
-        [SIMMEROTTER_LEX_TOKENS] = 4,
-    };
-    static const uint64_t refused[SIMMEROTTER_LEX_ANSWER_NUMBERS] = {SIMMEROTTER_TOKENS_TOO_SHORT, 4, 0};
-    static const uint32_t wanted[22] = {
-        SIMMEROTTER_KIND_OPEN_BRACE, 0, 1, 0, SIMMEROTTER_KIND_OPCODE, 1, 4, 1, SIMMEROTTER_KIND_CLOSE_BRACE, 4, 5, 0,
-        SIMMEROTTER_KIND_EOF, 5, 5, 0, 0, 0, 0, 0, 0, 0,
-    };
-    uint32_t tokens[22], untouched[22];
-
-    fill(untouched, LENGTH(untouched));
-    cut("cut", text, strlen(text), tokens, LENGTH(tokens), accepted, wanted);
-    cut("cut, a word short", text, strlen(text), tokens, 15, refused, untouched);
-}
-
-/* One text for each refusal by a byte, behind two bytes of white space; the list stays as it was. */
-static void cut_refused(void)
-{
-    static const struct {
-        const char *text;
-        uint64_t number;
-    } rows[] = {
-        {"\t 0x", SIMMEROTTER_STARTS_NOTHING},
-        {"\t /* *", SIMMEROTTER_NOT_CLOSED},
-        {"\t 4294967296", SIMMEROTTER_TOO_LARGE},
-    };
-    uint32_t tokens[9], untouched[9];
-
-    fill(untouched, LENGTH(untouched));
-    for (size_t i = 0; i < LENGTH(rows); i++) {
-        const uint64_t wanted[SIMMEROTTER_LEX_ANSWER_NUMBERS] = {rows[i].number, 2, 0};
-        cut(rows[i].text, rows[i].text, strlen(rows[i].text), tokens, LENGTH(tokens), wanted, untouched);
-    }
-}
-
-/* A byte above the limit; at the limit a single token of white space. */
-static void cut_long(void)
-{
-    static char text[SIMMEROTTER_MAX_TEXT + 1];
-    static const uint64_t refused[SIMMEROTTER_LEX_ANSWER_NUMBERS] = {SIMMEROTTER_TEXT_TOO_LONG, 0, 0};
-    static const uint64_t accepted[SIMMEROTTER_LEX_ANSWER_NUMBERS] = {SIMMEROTTER_ACCEPTED, 0, 2};
-    static const uint32_t wanted[8] = {
-        SIMMEROTTER_KIND_WHITESPACE, 0, SIMMEROTTER_MAX_TEXT, 0, SIMMEROTTER_KIND_EOF, SIMMEROTTER_MAX_TEXT, SIMMEROTTER_MAX_TEXT, 0,
-    };
-    uint32_t tokens[8], untouched[8];
-
-    memset(text, ' ', sizeof text);
-    fill(untouched, LENGTH(untouched));
-    cut("too long a text", text, sizeof text, tokens, LENGTH(tokens), refused, untouched);
-    cut("as long a text as may be", text, sizeof text - 1, tokens, LENGTH(tokens), accepted, wanted);
-}
-
 int main(void)
 {
     read_push();
@@ -380,11 +303,8 @@ int main(void)
     read_later_body();
     read_in_modes_and_editions();
     read_types();
-    cut_and_fill();
-    cut_refused();
-    cut_long();
     if (failures != 0)
         return 1;
-    printf("C: 23 calls as they should be\n");
+    printf("C: sixteen calls as they should be\n");
     return 0;
 }

@@ -1,23 +1,16 @@
 /*
- * Simmerotter for C: cuts a Huff text into a token list, and reads the token list of a Huff file or of one macro body into tables,
- * all of them lent by the caller. The repository's docs/RULES.md has the rules: what a token list holds, what is refused, what the
- * records say; docs/LEXER.md those by which a text is cut. From a text to its definitions: simmerotter_lex, then
- * simmerotter_read_file with the same text and the tokens that were written; text.c does it.
+ * Simmerotter for C: reads the token list of a Huff file or of one macro body into tables that the caller lends.
+ * The repository's docs/RULES.md has the rules: what a token list holds, what is refused, what the records say.
  *
  * Before a call
  * - A list passes as a pointer and its length in elements: bytes of text, 32-bit words elsewhere. A token is four words.
  * - No pointer may be null, at length 0 either: give any aligned address then.
- * - The lent lists (kept, definitions, statements, arguments; the lexer's tokens) and the answer must not overlap anything else
- *   that is passed.
- * - A call that reads takes up to about 70 KB of stack in mode 0. In mode 1 it takes as much where no body has more than 512
- *   tokens, else up to about 400 KB. One that cuts takes up to about 10 KB. Calls share nothing: threads may call at once, each
- *   with lists of its own.
+ * - The lent lists (kept, definitions, statements, arguments) and the answer must not overlap anything else that is passed.
+ * - A call takes up to about 70 KB of stack in mode 0. In mode 1 it takes as much where no body has more than 512 tokens, else
+ *   up to about 400 KB. Calls share nothing: threads may call at once, each with lists of its own.
  *
- * Room that always suffices
- * - For a text of n bytes: n + 1 tokens, but never more than 65,536. With less, simmerotter_lex answers 43 and its cursor says how
- *   many tokens are needed.
- * - For n tokens: n words of kept list, n / 2 definition records, n statement records, n argument records. With less, a call
- *   answers 32 to 35 and its cursor says how many records (kept list: words) are needed.
+ * Room that always suffices, for n tokens: n words of kept list, n / 2 definition records, n statement records, n argument
+ * records. With less, a call answers 32 to 35 and its cursor says how many records (kept list: words) are needed.
  *
  * A program that was built against an older header has to be built again with this one before it is linked with this archive:
  * - An answer has seven numbers, all of them written by every call. It had five, and a call writes beyond those.
@@ -26,11 +19,9 @@
  *
  * After a call
  * - answer[SIMMEROTTER_NUMBER] is 0 if the input was accepted, else a refusal's number.
- * - After 30, 31, 35, 36 and 38 to 43 nothing lent has changed.
- * - Otherwise simmerotter_lex has written the tokens' words, and zeros behind them to the list's end.
- * - And the other two have written the numbers of the tokens that are neither Whitespace nor Comment, in order, into the first
- *   words of the kept list; its other words are untouched. The tables hold the records followed by zeros; after a refusal, only
- *   zeros.
+ * - After 30, 31, 35, 36 and 38 nothing lent has changed.
+ * - Otherwise the first words of the kept list hold the numbers of the tokens that are neither Whitespace nor Comment, in order,
+ *   and its other words are untouched. The tables hold the records followed by zeros; after a refusal, only zeros.
  * - A place counts kept tokens from 0: place p is the token whose four words start at tokens[4 * kept[p]]. Ends are exclusive.
  * - White space and comments, put in or taken out, change no answer, and no word of a table but the last two of a definition's
  *   record, as long as the list stays well formed and as many words are lent.
@@ -48,7 +39,7 @@
 extern "C" {
 #endif
 
-/* Limits: a longer text or list is answered by 30 with cursor 0, by simmerotter_lex with 39 and 43. */
+/* Limits: a longer text or list is answered by 30 with cursor 0. */
 #define SIMMEROTTER_MAX_TEXT 1048576u
 #define SIMMEROTTER_MAX_TOKENS 65536u
 
@@ -58,7 +49,6 @@ extern "C" {
 #define SIMMEROTTER_STATEMENT_WORDS 8
 #define SIMMEROTTER_ARGUMENT_WORDS 7
 #define SIMMEROTTER_ANSWER_NUMBERS 7
-#define SIMMEROTTER_LEX_ANSWER_NUMBERS 3
 
 /* A place that is absent; as a plain length: the body has none. */
 #define SIMMEROTTER_NONE 4294967295u
@@ -88,18 +78,6 @@ enum simmerotter_edition {
     SIMMEROTTER_EDITION_SECOND = 2 /* for a ledger on which one byte, PUSH0, pushes a zero (EIP-3855): it counts 1 */
 };
 
-/*
- * Cuts a text into tokens: white space and comments are tokens too, and the last one is Eof. Together they cover the text, but for
- * the quotes of strings. tokens_len counts words, as everywhere; words that make no whole token are no room.
- *
- * What is written is the list that the other two take with the same text: its first 4 * answer[SIMMEROTTER_LEX_TOKENS] words, and
- * none of the zeros behind them. They never answer it with 30.
- */
-void simmerotter_lex(
-    const uint8_t *text, size_t text_len,
-    uint32_t *tokens, size_t tokens_len,
-    uint64_t answer[SIMMEROTTER_LEX_ANSWER_NUMBERS]);
-
 /* Reads a whole file. */
 void simmerotter_read_file(
     uint32_t mode,
@@ -126,15 +104,10 @@ void simmerotter_read_body(
     uint32_t *arguments, size_t arguments_len,
     uint64_t answer[SIMMEROTTER_ANSWER_NUMBERS]);
 
-/*
- * The numbers of an answer. After a refusal the counts, 2 to 4, are 0. Type and size are 0 unless the number is 7. The lexer's has
- * the first three alone.
- */
+/* The numbers of an answer. After a refusal the three counts, 2 to 4, are 0. Type and size are 0 unless the number is 7. */
 enum simmerotter_answer {
     SIMMEROTTER_NUMBER = 0, /* 0 accepted, else one of simmerotter_refusal */
-    SIMMEROTTER_CURSOR = 1, /* accepted: the place of Eof, or one past the closing brace, or, of the lexer, 0; else see
-                             * simmerotter_refusal */
-    SIMMEROTTER_LEX_TOKENS = 2, /* tokens written, Eof too */
+    SIMMEROTTER_CURSOR = 1, /* accepted: the place of Eof, or one past the closing brace; else see simmerotter_refusal */
     SIMMEROTTER_FILE_DEFINITIONS = 2,
     SIMMEROTTER_FILE_STATEMENTS = 3,
     SIMMEROTTER_FILE_ARGUMENTS = 4,
@@ -164,10 +137,7 @@ enum simmerotter_type {
     SIMMEROTTER_TYPE_BYTES_N = 7  /* size in bytes, 1 to 32 */
 };
 
-/*
- * Why input was refused. For 1 to 22 the cursor is a place. 39 to 43 are the lexer's, and it gives no others: 39 before all, then
- * that of 40 to 42 whose byte comes first, then 43.
- */
+/* Why input was refused. For 1 to 22 the cursor is a place. */
 enum simmerotter_refusal {
     SIMMEROTTER_ACCEPTED = 0,
     SIMMEROTTER_UNEXPECTED_TYPE = 1,
@@ -193,16 +163,7 @@ enum simmerotter_refusal {
     SIMMEROTTER_ARGUMENTS_TOO_SMALL = 34,  /* cursor: the records needed */
     SIMMEROTTER_KEPT_TOO_SHORT = 35,       /* cursor: the words needed */
     SIMMEROTTER_UNKNOWN_MODE = 36,         /* before any other; cursor: 0 */
-    SIMMEROTTER_UNKNOWN_EDITION = 38,      /* a body call alone, before any other but 36; cursor: 0 */
-    SIMMEROTTER_TEXT_TOO_LONG = 39,        /* above SIMMEROTTER_MAX_TEXT; cursor: 0 */
-    SIMMEROTTER_STARTS_NOTHING = 40,       /* no token starts here: a lone slash, 0x without a digit, a byte that no token begins
-                                            * with; cursor: that byte of the text */
-    SIMMEROTTER_NOT_CLOSED = 41,           /* a comment without its end, a string without its second quote on the same line;
-                                            * cursor: the byte where it opens */
-    SIMMEROTTER_TOO_LARGE = 42,            /* a number above 4,294,967,295 or a literal of more than 64 digits; cursor: its first
-                                            * byte */
-    SIMMEROTTER_TOKENS_TOO_SHORT = 43      /* cursor: the tokens needed, Eof too; above SIMMEROTTER_MAX_TOKENS no list is long
-                                            * enough */
+    SIMMEROTTER_UNKNOWN_EDITION = 38       /* a body call alone, before any other but 36; cursor: 0 */
 };
 
 /* The words of a token. Start and end count bytes of the text. */

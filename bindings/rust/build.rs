@@ -18,7 +18,7 @@ fn main() {
     println!("cargo:rustc-link-lib=static=simmerotter");
 }
 
-/// The folder that the variable names, or where `bindings/archive` puts the archive.
+/// The folder that the variable names, or where `rt` writes the archive.
 fn archive_folder() -> PathBuf {
     match env::var_os(FOLDER_VARIABLE) {
         Some(folder) => PathBuf::from(folder),

@@ -2,21 +2,19 @@
 
 use crate::place::clean;
 use simmerotter::{Edition, Mode};
-use std::ffi::{OsStr, OsString};
+use std::ffi::OsString;
 use std::fmt;
 
 /// What `--help` prints.
 pub const HELP: &str = "\
-simmerotter reads a Huff text with the proved lexer and parser and shows what they found in it.
+simmerotter reads a Huff text and its token list and shows what the proved parser found in them.
 
 Usage:
-  simmerotter TEXT               reads a whole file and prints what it found, for a person
-  simmerotter --body PLACE TEXT  reads one body, whose { stands at PLACE
-  simmerotter --records [...] TEXT
-                                 prints a record a line, for programs; --places adds a line a place
-  simmerotter --help             prints this
-
-  --tokens FILE, with any of them, reads the token list in FILE and cuts no tokens itself
+  simmerotter TEXT WORDS               reads a whole file and prints what it found, for a person
+  simmerotter --body PLACE TEXT WORDS  reads one body, whose { stands at PLACE
+  simmerotter --records [...] TEXT WORDS
+                                       prints a record a line, for programs; --places adds a line a place
+  simmerotter --help                   prints this
 
   --strict, with any of them, also refuses a push in a label without a literal that fits it, and a label that
   stands twice in a body. Without it both are accepted, and a person is warned of the first
@@ -26,22 +24,23 @@ Usage:
   ledger's change; in 2 it has one, for a ledger on which one byte, PUSH0, pushes a zero. A file's records have no
   plain length, so with --records it goes with --body alone
 
-  TEXT   the Huff text; at most 1048576 bytes and 65536 tokens. - is standard input
-  FILE   a token list: little-endian 32-bit words, four a token (kind, start, end, extra); at most 65536 tokens
+  TEXT   the Huff text; at most 1048576 bytes
+  WORDS  its token list: little-endian 32-bit words, four a token (kind, start, end, extra); at most 65536
+         tokens. simmerotter cuts no tokens itself: the list comes from the compiler's lexer
   PLACE  counts the tokens that are neither white space nor comment, from 0
 
 Status:
   0 accepted, 1 refused, 2 wrong usage or a file that can't be read
 
 Example:
-  simmerotter examples/settlement.huff
+  simmerotter examples/settlement.huff examples/settlement.words
 
 docs/COMMAND.md explains both forms and every message.
 ";
 
 const HINT: &str = "simmerotter --help explains the usage.\n";
 
-/// Which of the library's two entries reads the tokens.
+/// Which of the library's two entries is called.
 #[derive(Clone, Copy, Debug, PartialEq, Eq)]
 pub enum Entry {
     File,
@@ -55,7 +54,7 @@ pub enum Form {
     Records { places: bool },
 }
 
-/// What is read, and how.
+/// One call of the library.
 #[derive(Debug, PartialEq, Eq)]
 pub struct Job {
     pub entry: Entry,
@@ -64,8 +63,7 @@ pub struct Job {
     pub edition: Edition,
     pub form: Form,
     pub text: OsString,
-    /// The token list, if it is not to be cut from the text.
-    pub tokens: Option<OsString>,
+    pub words: OsString,
 }
 
 #[derive(Debug, PartialEq, Eq)]
@@ -84,9 +82,6 @@ pub enum Wrong {
     NoValue(Valued, Option<OsString>),
     PlacesAlone,
     EditionOfRecords,
-    StandardInputTwice,
-    /// The form of before there was a lexer: a text and its token list.
-    TextAndList(OsString),
     Paths(usize),
 }
 
@@ -104,37 +99,15 @@ impl fmt::Display for Wrong {
             Wrong::EditionOfRecords => {
                 writeln!(f, "simmerotter: --edition with --records goes with --body: a file's records have no plain length")
             }
-            Wrong::StandardInputTwice => {
-                writeln!(f, "simmerotter: standard input can't be both the text and the token list; one of them has to be a file")
-            }
-            Wrong::TextAndList(second) => writeln!(
-                f,
-                "simmerotter: one path is needed, TEXT, and two are given; leave out {0}, or write --tokens {0} if it is the token \
-                 list to be read",
-                shown(second)
-            ),
-            Wrong::Paths(count) => writeln!(f, "simmerotter: one path is needed, TEXT; {} given", count),
+            Wrong::Paths(count) => writeln!(f, "simmerotter: two paths are needed, TEXT and WORDS; {} given", count),
         }?;
         f.write_str(HINT)
     }
 }
 
 /// A word of the command line as it may be printed.
-pub fn shown(word: &OsStr) -> String {
+pub fn shown(word: &std::ffi::OsStr) -> String {
     clean(word.to_string_lossy().as_bytes())
-}
-
-/// A file's name as it may be printed.
-pub fn named(path: &OsStr) -> String {
-    if is_standard_input(path) {
-        return "standard input".to_string();
-    }
-    shown(path)
-}
-
-/// A file of this name can be read as `./-`.
-pub fn is_standard_input(path: &OsStr) -> bool {
-    path == "-"
 }
 
 /// An option that a value follows, and what that has to be.
@@ -146,7 +119,6 @@ pub struct Valued {
 
 const BODY: Valued = Valued { name: "--body", needs: "a place from 0 to 4294967295" };
 const EDITION: Valued = Valued { name: "--edition", needs: "1 or 2" };
-const TOKENS: Valued = Valued { name: "--tokens", needs: "the path of a token list" };
 
 /// Options as they are found; each may stand anywhere and once.
 #[derive(Default)]
@@ -157,7 +129,6 @@ struct Found {
     places: bool,
     body: Option<usize>,
     edition: Option<Edition>,
-    tokens: Option<OsString>,
     paths: Vec<OsString>,
 }
 
@@ -174,9 +145,8 @@ pub fn parse(words: impl Iterator<Item = OsString>) -> Result<Request, Wrong> {
             Some("--strict") => once(&mut found.strict, "--strict")?,
             Some("--records") => once(&mut found.records, "--records")?,
             Some("--places") => once(&mut found.places, "--places")?,
-            Some("--body") => valued(&mut found.body, BODY, words.next(), |word| place(word.to_str()?))?,
-            Some("--edition") => valued(&mut found.edition, EDITION, words.next(), |word| edition(word.to_str()?))?,
-            Some("--tokens") => valued(&mut found.tokens, TOKENS, words.next(), list)?,
+            Some("--body") => valued(&mut found.body, BODY, words.next(), place)?,
+            Some("--edition") => valued(&mut found.edition, EDITION, words.next(), edition)?,
             Some("--") => found.paths.extend(words.by_ref()),
             _ if is_option(&word) => return Err(Wrong::UnknownOption(word)),
             _ => found.paths.push(word),
@@ -185,8 +155,8 @@ pub fn parse(words: impl Iterator<Item = OsString>) -> Result<Request, Wrong> {
     found.request()
 }
 
-/// A lone `-` is standard input.
-fn is_option(word: &OsStr) -> bool {
+/// A lone `-` is a path like another.
+fn is_option(word: &std::ffi::OsStr) -> bool {
     word.len() > 1 && word.to_string_lossy().starts_with('-')
 }
 
@@ -203,12 +173,12 @@ fn valued<T>(
     value: &mut Option<T>,
     option: Valued,
     word: Option<OsString>,
-    value_of: impl Fn(&OsStr) -> Option<T>,
+    value_of: impl Fn(&str) -> Option<T>,
 ) -> Result<(), Wrong> {
     if value.is_some() {
         return Err(Wrong::Twice(option.name));
     }
-    *value = word.as_ref().and_then(|word| value_of(word));
+    *value = word.as_ref().and_then(|word| word.to_str()).and_then(value_of);
     match value {
         Some(_) => Ok(()),
         None => Err(Wrong::NoValue(option, word)),
@@ -227,11 +197,6 @@ fn edition(word: &str) -> Option<Edition> {
     Edition::ALL.into_iter().find(|edition| edition.number().to_string() == word)
 }
 
-/// Any path but one that looks like an option: that would be a forgotten path more often. `./--name` is one.
-fn list(word: &OsStr) -> Option<OsString> {
-    Some(word.to_owned()).filter(|word| !is_option(word))
-}
-
 impl Found {
     fn request(self) -> Result<Request, Wrong> {
         if self.help {
@@ -247,21 +212,11 @@ impl Found {
         let edition = self.edition.unwrap_or_default();
         let form = if self.records { Form::Records { places: self.places } } else { Form::Person };
         let entry = self.body.map_or(Entry::File, Entry::Body);
-        let text = text_of(self.paths, self.tokens.is_some())?;
-        if is_standard_input(&text) && self.tokens.as_deref().map_or(false, is_standard_input) {
-            return Err(Wrong::StandardInputTwice);
+        let count = self.paths.len();
+        let mut paths = self.paths.into_iter();
+        match (paths.next(), paths.next(), paths.next()) {
+            (Some(text), Some(words), None) => Ok(Request::Read(Job { entry, mode, edition, form, text, words })),
+            _ => Err(Wrong::Paths(count)),
         }
-        Ok(Request::Read(Job { entry, mode, edition, form, text, tokens: self.tokens }))
-    }
-}
-
-/// The one path that is no option's.
-fn text_of(paths: Vec<OsString>, has_list: bool) -> Result<OsString, Wrong> {
-    let count = paths.len();
-    let mut paths = paths.into_iter();
-    match (paths.next(), paths.next(), paths.next()) {
-        (Some(text), None, _) => Ok(text),
-        (Some(_), Some(second), None) if !has_list => Err(Wrong::TextAndList(second)),
-        _ => Err(Wrong::Paths(count)),
     }
 }

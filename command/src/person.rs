@@ -1,7 +1,7 @@
 //! The form for people: a line for each definition, argument and statement, with where it stands on the left and what it is
 //! on the right, indented under what it belongs to. A definition's line ends with its bytes in the text.
 
-use crate::arguments::{named, Job};
+use crate::arguments::{shown, Job};
 use crate::place::{clean, token_of, Lines};
 use simmerotter::{
     Argument, ArgumentForm, Arguments, Body, Definition, DefinitionKind, File, FunctionType, Kind, Location, Options, Room,
@@ -20,7 +20,7 @@ pub fn file(job: &Job, file: File, text: &[u8], tokens: &[u32], lines: &Lines) -
         counted(file.all_statements().count(), "statement"),
         counted(file.arguments().count(), "argument"),
     ];
-    page.out += &format!("{}: accepted: {}; the end is place {}\n", named(&job.text), counts.join(", "), file.end());
+    page.out += &format!("{}: accepted: {}; the end is place {}\n", shown(&job.text), counts.join(", "), file.end());
     if file.definitions().next().is_some() {
         page.out += HEADING;
     }
@@ -36,7 +36,7 @@ pub fn body(job: &Job, body: Body, tokens: &[u32], lines: &Lines) -> String {
     let mut page = Page::new(tokens, body.kept(), lines);
     let counts = [counted(body.all_statements().count(), "statement"), counted(body.arguments().count(), "argument")];
     let length = length_text(body);
-    page.out += &format!("{}: accepted: {}, {}; the end is place {}\n", named(&job.text), counts.join(", "), length, body.end());
+    page.out += &format!("{}: accepted: {}, {}; the end is place {}\n", shown(&job.text), counts.join(", "), length, body.end());
     if body.all_statements().next().is_some() {
         page.out += HEADING;
     }

@@ -40,13 +40,6 @@ pub struct Excerpt {
     pub carets: String,
 }
 
-/// Two lines.
-impl fmt::Display for Excerpt {
-    fn fmt(&self, f: &mut fmt::Formatter<'_>) -> fmt::Result {
-        write!(f, "{}\n{}\n", self.line, self.carets)
-    }
-}
-
 impl<'t> Lines<'t> {
     pub fn new(text: &'t [u8]) -> Lines<'t> {
         let ends = text.iter().enumerate().filter(|(_, byte)| **byte == b'\n');
@@ -130,7 +123,7 @@ fn characters(bytes: &[u8]) -> Vec<(usize, char)> {
 }
 
 /// Control characters could move the cursor or hide text, and so could those that turn the direction of writing.
-pub fn printable(character: char) -> char {
+fn printable(character: char) -> char {
     let turns = matches!(character, '\u{200e}' | '\u{200f}' | '\u{202a}'..='\u{202e}' | '\u{2066}'..='\u{2069}');
     if turns || (character.is_control() && character != '\t') {
         '?'

@@ -1,72 +1,52 @@
 //! A refusal in words, with the place it points at.
 
-use crate::arguments::{named, Job};
-use crate::hints::hint;
-use crate::lexical;
+use crate::arguments::{shown, Job};
 use crate::place::{clean, token_of, Lines, Position};
 use crate::well_formed::{fault, words_of, Fault, TokenWords};
 use simmerotter::{Cursor, Kind, Refusal, Refused, TokenAt};
 use std::ops::Range;
 
-/// What was read: text, token list, and the kept list of the call, empty where it wrote none.
-#[derive(Clone, Copy)]
-pub struct Source<'a> {
-    pub text: &'a [u8],
-    /// The text's size, if it is known: a text above the limit was not read to its end.
-    pub size: Option<u64>,
-    pub tokens: &'a [u32],
-    pub kept: &'a [u32],
-    pub lines: &'a Lines<'a>,
-}
-
-impl Source<'_> {
-    pub fn token(&self, place: usize) -> Option<TokenAt> {
-        token_of(self.tokens, self.kept, place)
-    }
-
-    pub fn text_of(&self, token: &TokenAt) -> String {
-        clean(token.text_in(self.text))
-    }
-}
-
 /// What a refusal's cursor points at: a token of the list and its place in the text, as far as there is one.
 pub struct Site<'a> {
-    source: Source<'a>,
+    text: &'a [u8],
+    tokens: &'a [u32],
+    kept: &'a [u32],
+    lines: &'a Lines<'a>,
     /// The token's number in the list.
     pub number: Option<usize>,
     bytes: Option<Range<usize>>,
 }
 
 impl<'a> Site<'a> {
-    pub fn new(source: Source<'a>, refused: Refused) -> Site<'a> {
-        let nowhere = Site { source, number: None, bytes: None };
+    /// `kept` is the kept list of the refused call, empty where it wrote none.
+    pub fn new(text: &'a [u8], tokens: &'a [u32], kept: &'a [u32], lines: &'a Lines<'a>, refused: Refused) -> Site<'a> {
+        let nowhere = Site { text, tokens, kept, lines, number: None, bytes: None };
         match refused.refusal.cursor() {
-            Cursor::Place => match source.token(refused.cursor) {
+            Cursor::Place => match token_of(tokens, kept, refused.cursor) {
                 Some(token) => Site { number: Some(token.number), bytes: Some(token.bytes), ..nowhere },
                 None => nowhere,
             },
-            Cursor::Token => match fault(source.text, source.tokens, refused.cursor) {
+            Cursor::Token => match fault(text, tokens, refused.cursor) {
                 Fault::Token(_) => {
-                    let bytes = words_of(source.tokens, refused.cursor).and_then(|words| bytes_within(words, source.text.len()));
+                    let bytes = words_of(tokens, refused.cursor).and_then(|words| bytes_within(words, text.len()));
                     Site { number: Some(refused.cursor), bytes, ..nowhere }
                 }
                 Fault::Whole(_) => nowhere,
             },
-            Cursor::Byte => Site { bytes: lexical::refused_bytes(source.text, refused), ..nowhere },
             Cursor::Start | Cursor::Needed | Cursor::Nothing => nowhere,
         }
     }
 
     pub fn position(&self) -> Option<Position> {
-        self.bytes.as_ref().map(|bytes| self.source.lines.position(bytes.start))
+        self.bytes.as_ref().map(|bytes| self.lines.position(bytes.start))
     }
 
     fn token(&self, place: usize) -> Option<TokenAt> {
-        self.source.token(place)
+        token_of(self.tokens, self.kept, place)
     }
 
     fn text_of(&self, token: &TokenAt) -> String {
-        self.source.text_of(token)
+        clean(token.text_in(self.text))
     }
 
     /// The labels before a place of a body, the nearest first. A body holds no braces, so the nearest one opens it.
@@ -96,32 +76,28 @@ pub fn warning(job: &Job, refused: Refused, site: &Site) -> String {
 fn introduced(introduction: &str, job: &Job, refused: Refused, site: &Site) -> String {
     let (head, sentence) = (head(job, refused.refusal, site), sentence(refused, site));
     let (number, name) = (refused.refusal.number(), refused.refusal.name());
-    // Only of a list that was cut here is it known how its words were read.
-    let hint = if job.tokens.is_none() { hint(refused, &site.source) } else { String::new() };
-    let mut message = format!("{}: {}{} {}: {}{}\n", head, introduction, number, name, sentence, hint);
+    let mut message = format!("{}: {}{} {}: {}\n", head, introduction, number, name, sentence);
     if let Some(bytes) = &site.bytes {
-        message += &site.source.lines.excerpt(bytes).to_string();
+        let excerpt = site.lines.excerpt(bytes);
+        message += &format!("{}\n{}\n", excerpt.line, excerpt.carets);
     }
-    message + &cursor_line(refused, site)
+    message + &token_line(refused, site)
 }
 
 /// The text's path and the position, or the path of the file that is at fault as a whole.
 fn head(job: &Job, refusal: Refusal, site: &Site) -> String {
-    match (site.position(), &job.tokens) {
-        (Some(position), _) => format!("{}:{}", named(&job.text), position),
-        (None, Some(tokens)) if refusal == Refusal::NotWellFormed => named(tokens),
-        (None, _) => named(&job.text),
+    match site.position() {
+        Some(position) => format!("{}:{}", shown(&job.text), position),
+        None if refusal == Refusal::NotWellFormed => shown(&job.words),
+        None => shown(&job.text),
     }
 }
 
 fn sentence(refused: Refused, site: &Site) -> String {
     let message = refused.refusal.message();
-    if let Some(sentence) = lexical::sentence(refused, site.source.text, site.source.size) {
-        return sentence;
-    }
     match refused.refusal {
-        Refusal::NotWellFormed => fault(site.source.text, site.source.tokens, refused.cursor).sentence().to_string(),
-        Refusal::StartOutside => start_sentence(refused.cursor, site.source.tokens),
+        Refusal::NotWellFormed => fault(site.text, site.tokens, refused.cursor).sentence().to_string(),
+        Refusal::StartOutside => start_sentence(refused.cursor, site.tokens),
         Refusal::InvalidPush => push_sentence(refused.cursor, site).unwrap_or_else(|| message.to_string()),
         Refusal::InvalidTypeAsArgumentName => type_sentence(refused, site).unwrap_or_else(|| message.to_string()),
         Refusal::RepeatedName => repeated_sentence(message, refused.cursor, site),
@@ -150,7 +126,7 @@ fn push_sentence(cursor: usize, site: &Site) -> Option<String> {
     }
     let push = site.token(cursor.checked_sub(2)?)?;
     let takes = push.extra.checked_sub(0x5f)?;
-    let has = significant_bytes(before.text_in(site.source.text));
+    let has = significant_bytes(before.text_in(site.text));
     Some(format!("{}{} has {} bytes and {} takes {}", under, site.text_of(&before), has, site.text_of(&push), takes))
 }
 
@@ -179,17 +155,17 @@ fn type_sentence(refused: Refused, site: &Site) -> Option<String> {
 /// Says where the first of two names stands: macros, fns and tests alone start with these three tokens.
 fn repeated_sentence(message: &str, cursor: usize, site: &Site) -> String {
     let name = match site.token(cursor) {
-        Some(token) => token.text_in(site.source.text),
+        Some(token) => token.text_in(site.text),
         None => return message.to_string(),
     };
     let is_first = |place: &usize| {
         let kind = |at: Option<usize>| at.and_then(|at| site.token(at)).map(|token| token.kind);
         let names_macro = matches!(kind(place.checked_sub(1)), Some(Kind::Macro | Kind::Fn | Kind::Test));
         let is_defined = kind(place.checked_sub(2)) == Some(Kind::Define);
-        names_macro && is_defined && site.token(*place).map_or(false, |token| token.text_in(site.source.text) == name)
+        names_macro && is_defined && site.token(*place).map_or(false, |token| token.text_in(site.text) == name)
     };
     match (0..cursor).find(is_first).and_then(|place| site.token(place)) {
-        Some(first) => format!("{}, at {}", message, site.source.lines.position(first.bytes.start)),
+        Some(first) => format!("{}, at {}", message, site.lines.position(first.bytes.start)),
         None => message.to_string(),
     }
 }
@@ -197,8 +173,8 @@ fn repeated_sentence(message: &str, cursor: usize, site: &Site) -> String {
 /// Says where the first of two labels stands.
 fn duplicate_sentence(cursor: usize, site: &Site) -> Option<String> {
     let later = site.token(cursor)?;
-    let has_its_name = |label: &TokenAt| label.text_in(site.source.text) == later.text_in(site.source.text);
-    let first = site.source.lines.position(site.labels_before(cursor).find(has_its_name)?.bytes.start);
+    let has_its_name = |label: &TokenAt| label.text_in(site.text) == later.text_in(site.text);
+    let first = site.lines.position(site.labels_before(cursor).find(has_its_name)?.bytes.start);
     let name = site.text_of(&later);
     Some(format!("the label `{}` stands twice in this body, first at {}; give one of them another name", name, first))
 }
@@ -213,10 +189,10 @@ fn args_sentence(message: &str, cursor: usize, site: &Site) -> String {
     format!("{}; found {}", message, found)
 }
 
-fn cursor_line(refused: Refused, site: &Site) -> String {
+fn token_line(refused: Refused, site: &Site) -> String {
     match (refused.refusal.cursor(), site.number) {
         (Cursor::Place, Some(number)) => format!("token place {} (number {} of the list)\n", refused.cursor, number),
-        (Cursor::Token, Some(number)) => words_of(site.source.tokens, number).map_or_else(String::new, |words| {
+        (Cursor::Token, Some(number)) => words_of(site.tokens, number).map_or_else(String::new, |words| {
             let kind = Kind::from_number(words.kind).map_or("unknown", Kind::name);
             let TokenWords { kind: of, start, end, extra } = words;
             format!(
@@ -224,7 +200,6 @@ fn cursor_line(refused: Refused, site: &Site) -> String {
                 number, of, kind, start, end, extra
             )
         }),
-        (Cursor::Byte, _) => format!("byte {} of the text\n", refused.cursor),
         _ => String::new(),
     }
 }

@@ -113,11 +113,11 @@ fn a_refusal_and_a_warning_are_the_same_in_both() {
 fn an_edition_is_1_or_2() {
     for edition in ["0", "3", "10", "01", "+1", "-1", "1.0", "0x1", " 1", "", "one", "4294967297", "--body"] {
         let message = format!("simmerotter: --edition needs 1 or 2, not {}", edition);
-        assert_eq!(wrong(&["--body", "0", "--edition", edition, "a"]), message);
+        assert_eq!(wrong(&["--body", "0", "--edition", edition, "a", "b"]), message);
     }
-    assert_eq!(wrong(&["a", "--edition"]), "simmerotter: --edition needs 1 or 2");
-    assert_eq!(wrong(&["--edition", "1\u{1b}[2J", "a"]), "simmerotter: --edition needs 1 or 2, not 1?[2J");
-    assert_eq!(wrong(&["--edition=2", "a"]), "simmerotter: unknown option --edition=2");
+    assert_eq!(wrong(&["a", "b", "--edition"]), "simmerotter: --edition needs 1 or 2");
+    assert_eq!(wrong(&["--edition", "1\u{1b}[2J", "a", "b"]), "simmerotter: --edition needs 1 or 2, not 1?[2J");
+    assert_eq!(wrong(&["--edition=2", "a", "b"]), "simmerotter: unknown option --edition=2");
 }
 
 #[test]
@@ -131,8 +131,8 @@ fn an_edition_stands_once() {
 fn the_records_of_a_file_have_no_edition() {
     let message = "simmerotter: --edition with --records goes with --body: a file's records have no plain length";
     for edition in EDITIONS {
-        assert_eq!(wrong(&["--edition", edition, "--records", "a"]), message);
-        assert_eq!(wrong(&["a", "--records", "--places", "--strict", "--edition", edition]), message);
+        assert_eq!(wrong(&["--edition", edition, "--records", "a", "b"]), message);
+        assert_eq!(wrong(&["a", "b", "--records", "--places", "--strict", "--edition", edition]), message);
     }
     let found = input("records", FILE).accepted(&["--records"]);
     assert_eq!(found.lines().next(), Some("file 0 49 5 9 0 0 0"));
@@ -144,7 +144,7 @@ fn the_option_may_stand_anywhere() {
     let wanted = input.run(&["--edition", "2", "--body", "0"]);
     assert_eq!(wanted.status, Some(0));
     let (text, words) = (input.text.as_os_str(), input.words.as_os_str());
-    let [edition, second, body, place, tokens] = ["--edition", "2", "--body", "0", "--tokens"].map(std::ffi::OsStr::new);
-    assert_eq!(run(&[text, edition, second, tokens, words, body, place]), wanted);
-    assert_eq!(run(&[body, place, tokens, words, text, edition, second]), wanted);
+    let [edition, second, body, place] = ["--edition", "2", "--body", "0"].map(std::ffi::OsStr::new);
+    assert_eq!(run(&[text, edition, second, words, body, place]), wanted);
+    assert_eq!(run(&[body, place, text, words, edition, second]), wanted);
 }

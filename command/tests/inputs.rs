@@ -11,7 +11,7 @@ const EOF: [u32; 4] = [0, 0, 0, 0];
 
 /// The message of a run that read nothing.
 fn problem(text: &Path, words: &Path) -> String {
-    let Run { out, err, status } = run(&[OsStr::new("--tokens"), words.as_os_str(), text.as_os_str()]);
+    let Run { out, err, status } = run(&[text.as_os_str(), words.as_os_str()]);
     assert_eq!((out.as_str(), status), ("", Some(2)), "{}", err);
     assert_eq!(err.matches('\n').count(), 1, "one line");
     err.trim_end().to_string()
@@ -80,7 +80,7 @@ fn a_pipe_is_read_like_a_file() {
     use std::process::Stdio;
     let input = Input::new("inputs_pipe", b"", &EOF);
     let mut command = common::command();
-    command.args([OsStr::new("--records"), OsStr::new("--tokens"), input.words.as_os_str(), OsStr::new("/dev/stdin")]);
+    command.args([OsStr::new("--records"), OsStr::new("/dev/stdin"), input.words.as_os_str()]);
     let mut child = command.stdin(Stdio::piped()).stdout(Stdio::piped()).spawn().unwrap();
     child.stdin.take().unwrap().write_all(b"// nothing").unwrap();
     assert_eq!(child.wait_with_output().unwrap().stdout, b"file 0 0 0 0 0 0 0\n");

@@ -3,7 +3,7 @@
 mod common;
 
 use common::{cut, list, Input};
-use simmerotter::{lex, push_token, Kind};
+use simmerotter::{push_token, Kind};
 
 /// The refusal of a file written with spaces between its words.
 fn file(name: &str, text: &str) -> String {
@@ -283,8 +283,8 @@ fn a_list_at_fault_as_a_whole_has_no_token() {
 
 /// How `examples/broken.huff` is refused with tokens put in before the one of this number.
 fn broken_with(number: usize, tokens: &[(Kind, &str)]) -> String {
-    let text = include_bytes!("../../examples/broken.huff");
-    let words = lex(text).unwrap();
+    let (text, words) = (include_bytes!("../../examples/broken.huff"), include_bytes!("../../examples/broken.words"));
+    let words: Vec<u32> = words.chunks(4).map(|word| u32::from_le_bytes(word.try_into().unwrap())).collect();
     let (before, behind) = words.split_at(4 * number);
     let (text_before, text_behind) = text.split_at(behind[1] as usize);
     let (mut text, mut words) = (text_before.to_vec(), before.to_vec());

@@ -167,8 +167,7 @@ fn the_option_may_stand_anywhere() {
     let wanted = input.run(&["--strict", "--body", "0"]);
     assert_eq!(wanted.status, Some(1));
     let (text, words) = (input.text.as_os_str(), input.words.as_os_str());
-    let [body, place, tokens, strict] = ["--body", "0", "--tokens", "--strict"].map(std::ffi::OsStr::new);
-    assert_eq!(run(&[text, body, place, tokens, words, strict]), wanted);
+    assert_eq!(run(&[text, "--body".as_ref(), "0".as_ref(), words, "--strict".as_ref()]), wanted);
 }
 
 #[test]

@@ -48,16 +48,6 @@ impl<'a> File<'a> {
         self.end
     }
 
-    /// The text that was read.
-    pub fn text(self) -> &'a [u8] {
-        self.reading.text
-    }
-
-    /// The token list that was read: the one that was given, or that the room cut of the text.
-    pub fn tokens(self) -> &'a [u32] {
-        self.reading.tokens
-    }
-
     /// The token numbers of all places.
     pub fn kept(self) -> &'a [u32] {
         self.reading.tables.kept.words()

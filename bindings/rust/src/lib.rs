@@ -1,31 +1,34 @@
-//! Reads Huff texts, and token lists, with Simmerotter's proved lexer and parser.
+//! Reads Huff token lists with Simmerotter's proved parser.
 //!
 //! A [`Room`] holds the tables that the parser writes into. It reads a whole file into a [`File`] or one macro body into a
-//! [`Body`], and their definitions, statements and arguments are views over those tables. It takes a text alone, which the lexer
-//! cuts ([`Room::read_text`]), or a text and its token list ([`Room::read_file`]); [`lex`] makes such a list. Bad input gives a
-//! [`Refused`]: a number and a cursor, and where a type's name was refused as an argument's, that [`ReservedType`]. A room's
-//! [`Options`] say in which [`Mode`] it reads, leniently if they say nothing, and in which [`Edition`] it measures a body, the first
-//! if they say nothing.
+//! [`Body`], and their definitions, statements and arguments are views over those tables. Bad input gives a [`Refused`]: a
+//! number and a cursor, and where a type's name was refused as an argument's, that [`ReservedType`]. A room's [`Options`] say in
+//! which [`Mode`] it reads, leniently if they say nothing, and in which [`Edition`] it measures a body, the first if they say
+//! nothing.
 //!
 //! Two words occur everywhere. A token's *number* is its index in the token list. A *place* counts only the tokens that are
 //! neither white space nor comment, from 0. Ends of ranges are exclusive.
 //!
 //! ```
-//! use simmerotter::{Refusal, Room};
+//! use simmerotter::{push_token, Kind, Refusal, Room};
 //!
-//! let text = "#define macro M() = { push1 0xff }";
+//! let text = b"{ PUSH1 0xff }";
+//! let mut tokens = Vec::new();
+//! push_token(&mut tokens, Kind::OpenBrace, 0, 1, 0);
+//! push_token(&mut tokens, Kind::Opcode, 2, 7, 0x60);
+//! push_token(&mut tokens, Kind::Literal, 8, 12, 0);
+//! push_token(&mut tokens, Kind::CloseBrace, 13, 14, 0);
+//! push_token(&mut tokens, Kind::Eof, 14, 14, 0);
+//!
 //! let mut room = Room::new();
-//! let file = room.read_text(text)?;
-//! let statements: Vec<&[u8]> = file.all_statements().map(|statement| statement.value_text()).collect();
-//! assert_eq!(statements, [&b"push1"[..], &b"0xff"[..]]);
-//!
-//! // The body by itself: its brace stands at place 6.
-//! let body = room.read_body_text(text, 6)?;
+//! let body = room.read_body(text, &tokens, 0)?;
 //! assert_eq!(body.plain_length(), Some(2));
+//! let texts: Vec<&[u8]> = body.statements().map(|statement| statement.value_text()).collect();
+//! assert_eq!(texts, [&b"PUSH1"[..], &b"0xff"[..]]);
 //!
-//! // One past the brace there is no body.
-//! let refused = room.read_body_text(text, 7).unwrap_err();
-//! assert_eq!((refused.refusal, refused.cursor), (Refusal::UnexpectedType, 7));
+//! // One past the opening brace there is no body.
+//! let refused = room.read_body(text, &tokens, 1).unwrap_err();
+//! assert_eq!((refused.refusal, refused.cursor), (Refusal::UnexpectedType, 1));
 //! # Ok::<(), simmerotter::Refused>(())
 //! ```
 
@@ -35,7 +38,6 @@
 mod body;
 mod file;
 pub mod kinds;
-pub mod lexer;
 pub mod options;
 pub mod raw;
 mod reading;
@@ -49,7 +51,6 @@ pub mod token;
 pub use body::Body;
 pub use file::File;
 pub use kinds::Kind;
-pub use lexer::lex;
 pub use options::{Edition, Mode, Options};
 pub use records::{
     Argument, ArgumentForm, Arguments, Definition, DefinitionKind, Definitions, FunctionType, Location, Statement, StatementKind,
@@ -80,9 +81,6 @@ pub const ARGUMENT_WORDS: usize = 7;
 
 /// Numbers of an answer: number, cursor, three counts, type, size.
 pub const ANSWER_NUMBERS: usize = 7;
-
-/// Numbers of the lexer's answer: number, cursor, tokens written.
-pub const LEX_ANSWER_NUMBERS: usize = 3;
 
 /// Stands in a record for a place that is absent, and in a body's answer for a plain length that it doesn't have.
 pub const NONE: u32 = 4_294_967_295;

@@ -1,28 +1,21 @@
-//! The archive's three functions over slices, as they are. The lexer is lent a token list and answers three numbers. To the
-//! other two the caller gives a mode's number ([`Mode::number`](crate::Mode::number)), for a body also an edition's
-//! ([`Edition::number`](crate::Edition::number)), lends every list and reads seven numbers. A number that is no mode's is answered
-//! by 36, one that is no edition's by 38. [`Refused::from_answer`](crate::Refused::from_answer) and
-//! [`Refused::from_lex_answer`](crate::Refused::from_lex_answer) make a refusal of the numbers.
+//! The archive's two functions over slices, as they are: the caller gives a mode's number ([`Mode::number`](crate::Mode::number)),
+//! for a body also an edition's ([`Edition::number`](crate::Edition::number)), lends every list and reads the seven numbers. A
+//! number that is no mode's is answered by 36, one that is no edition's by 38.
+//! [`Refused::from_answer`](crate::Refused::from_answer) makes a refusal of the numbers.
 //!
-//! A call that reads takes up to about 70 KB of stack in mode 0; in mode 1 as much where no body has more than 512 tokens, else
-//! up to about 400 KB. One that cuts takes up to about 10 KB. Calls share nothing, so threads may call at once.
+//! A call takes up to about 70 KB of stack in mode 0; in mode 1 as much where no body has more than 512 tokens, else up to about
+//! 400 KB. Calls share nothing, so threads may call at once.
 
 #![allow(unsafe_code)]
 
-use crate::{ANSWER_NUMBERS, LEX_ANSWER_NUMBERS};
+use crate::ANSWER_NUMBERS;
 
 /// The numbers of an answer. The first two are number (0 accepted) and cursor. What the three behind them count is said at each
 /// function; after a refusal they are 0. The last two are type and size, 0 unless the number is 7;
 /// [`ReservedType::from_numbers`](crate::ReservedType::from_numbers) knows them.
 pub type Answer = [u64; ANSWER_NUMBERS];
 
-/// The numbers of the lexer's answer: number (0 accepted), cursor, tokens written. The last is 0 after a refusal, the second 0 where
-/// the text was accepted.
-pub type LexAnswer = [u64; LEX_ANSWER_NUMBERS];
-
 extern "C" {
-    fn simmerotter_lex(text: *const u8, text_len: usize, tokens: *mut u32, tokens_len: usize, answer: *mut u64);
-
     fn simmerotter_read_file(
         mode: u32,
         text: *const u8,
@@ -56,17 +49,6 @@ extern "C" {
         arguments_len: usize,
         answer: *mut u64,
     );
-}
-
-/// Cuts a text into tokens. Accepted, the list holds their words, four a token, Eof too, and zeros behind them to its end; refused,
-/// it is as it was lent. A text of `n` bytes has at most `n + 1` tokens.
-pub fn lex(text: &[u8], tokens: &mut [u32]) -> LexAnswer {
-    let mut answer = [0; LEX_ANSWER_NUMBERS];
-    // As in `read_file`.
-    unsafe {
-        simmerotter_lex(text.as_ptr(), text.len(), tokens.as_mut_ptr(), tokens.len(), answer.as_mut_ptr());
-    }
-    answer
 }
 
 /// Reads a whole file in a mode. The answer: number, cursor, definitions, statements, arguments, type, size.

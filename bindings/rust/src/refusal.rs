@@ -1,6 +1,6 @@
 //! Why input is refused.
 
-use crate::raw::{Answer, LexAnswer};
+use crate::raw::Answer;
 use crate::reserved::ReservedType;
 use std::fmt;
 
@@ -55,16 +55,6 @@ pub enum Refusal {
     UnknownMode,
     /// 38. No edition has the number that was given for a body. A [`Room`](crate::Room) never answers so.
     UnknownEdition,
-    /// 39. The text to be cut is longer than [`MAX_TEXT`](crate::MAX_TEXT).
-    TextTooLong,
-    /// 40. No token starts with this byte: a lone `/`, `0x` without a hex digit, or a byte that no token begins with.
-    StartsNothing,
-    /// 41. A comment without its end, or a string without its second quote on the same line.
-    NotClosed,
-    /// 42. A number above 4,294,967,295, or a literal of more than 64 digits.
-    TooLarge,
-    /// 43. The token list is too short, or the text has more than 65,536 tokens. A [`Room`](crate::Room) answers so for that alone.
-    TokensTooShort,
     /// A number that this crate does not know, which an archive of another version may give.
     Unknown(u32),
 }
@@ -78,17 +68,15 @@ pub enum Cursor {
     Token,
     /// The start that the caller gave (31).
     Start,
-    /// How many records, words of the kept list, or tokens are needed (32 to 35 and 43).
+    /// How many records, or words of the kept list, are needed (32 to 35).
     Needed,
-    /// A byte of the text (40 to 42).
-    Byte,
-    /// Nothing: it is 0 (36, 38 and 39).
+    /// Nothing: it is 0 (36 and 38).
     Nothing,
 }
 
 impl Refusal {
     /// Every refusal of the rules, in the order of the numbers.
-    pub const ALL: [Refusal; 29] = [
+    pub const ALL: [Refusal; 24] = [
         Refusal::UnexpectedType,
         Refusal::InvalidDefinition,
         Refusal::InvalidConstantValue,
@@ -113,11 +101,6 @@ impl Refusal {
         Refusal::KeptTooShort,
         Refusal::UnknownMode,
         Refusal::UnknownEdition,
-        Refusal::TextTooLong,
-        Refusal::StartsNothing,
-        Refusal::NotClosed,
-        Refusal::TooLarge,
-        Refusal::TokensTooShort,
     ];
 
     /// The refusal's number.
@@ -147,11 +130,6 @@ impl Refusal {
             Refusal::KeptTooShort => 35,
             Refusal::UnknownMode => 36,
             Refusal::UnknownEdition => 38,
-            Refusal::TextTooLong => 39,
-            Refusal::StartsNothing => 40,
-            Refusal::NotClosed => 41,
-            Refusal::TooLarge => 42,
-            Refusal::TokensTooShort => 43,
             Refusal::Unknown(number) => number,
         }
     }
@@ -188,11 +166,6 @@ impl Refusal {
             Refusal::KeptTooShort => "KeptTooShort",
             Refusal::UnknownMode => "UnknownMode",
             Refusal::UnknownEdition => "UnknownEdition",
-            Refusal::TextTooLong => "TextTooLong",
-            Refusal::StartsNothing => "StartsNothing",
-            Refusal::NotClosed => "NotClosed",
-            Refusal::TooLarge => "TooLarge",
-            Refusal::TokensTooShort => "TokensTooShort",
             Refusal::Unknown(_) => "Unknown",
         }
     }
@@ -224,11 +197,6 @@ impl Refusal {
             Refusal::KeptTooShort => "the kept list is too short",
             Refusal::UnknownMode => "no mode has the number that was given",
             Refusal::UnknownEdition => "no edition has the number that was given",
-            Refusal::TextTooLong => "the text is longer than 1048576 bytes",
-            Refusal::StartsNothing => "no token starts with what stands here",
-            Refusal::NotClosed => "the comment or string that opens here is not closed",
-            Refusal::TooLarge => "this number is above 4294967295, or this literal has more than 64 digits",
-            Refusal::TokensTooShort => "the token list is too short, or the text has more than 65536 tokens",
             Refusal::Unknown(_) => "the archive gave a number that this crate does not know",
         }
     }
@@ -238,20 +206,12 @@ impl Refusal {
         match self {
             Refusal::NotWellFormed => Cursor::Token,
             Refusal::StartOutside => Cursor::Start,
-            Refusal::DefinitionsTooSmall
-            | Refusal::StatementsTooSmall
-            | Refusal::ArgumentsTooSmall
-            | Refusal::KeptTooShort
-            | Refusal::TokensTooShort => Cursor::Needed,
-            Refusal::StartsNothing | Refusal::NotClosed | Refusal::TooLarge => Cursor::Byte,
-            Refusal::UnknownMode | Refusal::UnknownEdition | Refusal::TextTooLong => Cursor::Nothing,
+            Refusal::DefinitionsTooSmall | Refusal::StatementsTooSmall | Refusal::ArgumentsTooSmall | Refusal::KeptTooShort => {
+                Cursor::Needed
+            }
+            Refusal::UnknownMode | Refusal::UnknownEdition => Cursor::Nothing,
             _ => Cursor::Place,
         }
-    }
-
-    /// Whether it is the lexer's, so that no token was read: 39 to 43. All others are the parser's.
-    pub fn is_lexers(self) -> bool {
-        (39..=43).contains(&self.number())
     }
 }
 
@@ -263,9 +223,9 @@ impl fmt::Display for Refusal {
 
 /// A refusal, its cursor, and for a type's name that type.
 ///
-/// As long as the list stays well formed, white space and comments change none of the three, if it is the parser's. Where the cursor
-/// is a place, neither do other tokens behind it or, for a body, as many others before its start; [`Refusal::RepeatedName`] alone
-/// depends on tokens behind its cursor too, those of its macro up to the brace.
+/// As long as the list stays well formed, white space and comments change none of the three. Where the cursor is a place, neither
+/// do other tokens behind it or, for a body, as many others before its start; [`Refusal::RepeatedName`] alone depends on tokens
+/// behind its cursor too, those of its macro up to the brace.
 #[derive(Clone, Copy, Debug, PartialEq, Eq, Hash)]
 pub struct Refused {
     /// Why.
@@ -281,23 +241,13 @@ impl Refused {
     /// The refusal of an answer of the archive; nothing if its number is 0, accepted.
     pub fn from_answer(answer: Answer) -> Option<Refused> {
         let [number, cursor, .., type_number, size] = answer;
-        Refused::new(number, cursor, ReservedType::from_numbers(type_number, size))
-    }
-
-    /// The refusal of an answer of the archive's lexer; nothing if its number is 0, accepted.
-    pub fn from_lex_answer(answer: LexAnswer) -> Option<Refused> {
-        let [number, cursor, _] = answer;
-        Refused::new(number, cursor, None)
-    }
-
-    fn new(number: u64, cursor: u64, reserved_type: Option<ReservedType>) -> Option<Refused> {
         if number == 0 {
             return None;
         }
         let number = u32::try_from(number).unwrap_or(u32::MAX);
         let refusal = Refusal::from_number(number).unwrap_or(Refusal::Unknown(number));
         let cursor = usize::try_from(cursor).unwrap_or(usize::MAX);
-        Some(Refused { refusal, cursor, reserved_type })
+        Some(Refused { refusal, cursor, reserved_type: ReservedType::from_numbers(type_number, size) })
     }
 
     /// What was wrong, with the type where there is one. The text is not known here: `uint` is a name of the type uint256 too.
@@ -326,7 +276,6 @@ impl fmt::Display for Cursor {
             Cursor::Token => "token",
             Cursor::Start => "start",
             Cursor::Needed => "a need of",
-            Cursor::Byte => "byte",
             Cursor::Nothing => "nothing",
         })
     }

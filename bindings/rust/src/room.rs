@@ -2,25 +2,21 @@
 
 use crate::body::Body;
 use crate::file::File;
-use crate::lexer;
 use crate::options::Options;
 use crate::raw::{self, Answer};
 use crate::reading::{Reading, Tables};
 use crate::refusal::{Refusal, Refused};
-use crate::table::Table;
 use crate::token::{kept_count, TokenAt};
 use crate::{MAX_TOKENS, NONE, TOKEN_WORDS};
 use std::fmt;
 
-/// Buffers for the kept list and the tables, and for the token list where the room cuts a text itself, used again from call to
-/// call. They grow as needed and never shrink. All calls read by the room's options.
+/// Buffers for the kept list and the tables, used again from call to call. They grow as needed and never shrink. All calls read
+/// by the room's options.
 ///
 /// A room serves one call at a time; threads take one each.
 pub struct Room {
     options: Options,
     tables: Tables,
-    /// Of the last call, if that was given a text alone.
-    tokens: Table,
 }
 
 /// Records that are enough for every list of so many tokens.
@@ -49,105 +45,41 @@ impl Room {
 
     /// An empty room that reads by these options.
     pub fn with(options: Options) -> Room {
-        Room { options, tables: Tables::new(), tokens: Table::new(TOKEN_WORDS) }
-    }
-
-    /// Reads a whole file by its text alone: cuts it into tokens, which the room keeps, and reads these.
-    ///
-    /// ```
-    /// use simmerotter::{Cursor, Refusal, Room};
-    ///
-    /// let mut room = Room::new();
-    /// let file = room.read_text("#define macro MAIN() = { 0x00 calldataload }")?;
-    /// let names: Vec<&[u8]> = file.definitions().map(|one| one.name()).collect();
-    /// assert_eq!(names, [b"MAIN"]);
-    ///
-    /// // The lexer refuses by a byte of the text, the parser by a place.
-    /// let unclosed = room.read_text("#define macro MAIN() = { /* }").unwrap_err();
-    /// assert_eq!((unclosed.refusal, unclosed.cursor), (Refusal::NotClosed, 25));
-    /// assert!(unclosed.refusal.is_lexers() && unclosed.refusal.cursor() == Cursor::Byte);
-    /// let bare = room.read_text("#define macro MAIN() = { push1 }").unwrap_err();
-    /// assert_eq!((bare.refusal, bare.cursor), (Refusal::InvalidPush, 8));
-    /// assert_eq!(room.token(room.tokens(), bare.cursor).map(|token| token.bytes), Some(31..32));
-    /// # Ok::<(), simmerotter::Refused>(())
-    /// ```
-    pub fn read_text<'a>(&'a mut self, text: &'a (impl AsRef<[u8]> + ?Sized)) -> Result<File<'a>, Refused> {
-        let text = text.as_ref();
-        self.cut(text)?;
-        self.tables.read_file(self.options, text, self.tokens.words())
-    }
-
-    /// Reads the body whose opening brace is at place `start` of a text, and measures it; the same from the text alone.
-    pub fn read_body_text<'a>(&'a mut self, text: &'a (impl AsRef<[u8]> + ?Sized), start: usize) -> Result<Body<'a>, Refused> {
-        let text = text.as_ref();
-        self.cut(text)?;
-        self.tables.read_body(self.options, text, self.tokens.words(), start)
+        Room { options, tables: Tables::new() }
     }
 
     /// Reads a whole file: its text and its token list, four words a token.
     pub fn read_file<'a>(&'a mut self, text: &'a [u8], tokens: &'a [u32]) -> Result<File<'a>, Refused> {
-        self.tokens.hold(0);
-        self.tables.read_file(self.options, text, tokens)
+        let options = self.options;
+        let answer = self.tables.until_room(tokens, |tables, enough| tables.call_file(options, text, tokens, enough));
+        let [_, _, definitions, statements, arguments, _, _] = answer;
+        let end = self.tables.settle(tokens, answer, [definitions, statements, arguments])?;
+        Ok(File { reading: Reading { text, tokens, tables: &self.tables }, end })
     }
 
     /// Reads the body whose opening brace is at place `start`, and measures it.
     pub fn read_body<'a>(&'a mut self, text: &'a [u8], tokens: &'a [u32], start: usize) -> Result<Body<'a>, Refused> {
-        self.tokens.hold(0);
-        self.tables.read_body(self.options, text, tokens, start)
+        let options = self.options;
+        let answer = self.tables.until_room(tokens, |tables, enough| tables.call_body(options, text, tokens, start, enough));
+        let [_, _, statements, arguments, length, _, _] = answer;
+        let end = self.tables.settle(tokens, answer, [0, statements, arguments])?;
+        let plain_length = Some(length).filter(|length| *length != u64::from(NONE));
+        Ok(Body { reading: Reading { text, tokens, tables: &self.tables }, end, edition: options.edition, plain_length })
     }
 
-    /// Makes the room's token list that of a text. Nothing of an older call is left, whatever comes of it.
-    fn cut(&mut self, text: &[u8]) -> Result<(), Refused> {
-        self.tables.forget();
-        lexer::cut(text, &mut self.tokens)
-    }
-
-    /// The token list that the last call cut; empty if the lexer refused the text, or if the call was given a token list.
-    pub fn tokens(&self) -> &[u32] {
-        self.tokens.words()
-    }
-
-    /// The token numbers of all places, after the last call: accepted or refused by the parser, but for `NotWellFormed` and
-    /// `StartOutside`. Otherwise empty.
+    /// The token numbers of all places, after the last call: accepted or refused, but for `NotWellFormed` and `StartOutside`.
+    /// Otherwise empty.
     pub fn kept(&self) -> &[u32] {
         self.tables.kept.words()
     }
 
-    /// The token at a place, by the kept list of the last call and the token list that it was given, or cut: [`Room::tokens`].
+    /// The token at a place, by the kept list of the last call and the token list that it was given.
     pub fn token(&self, tokens: &[u32], place: usize) -> Option<TokenAt> {
         self.tables.token(tokens, place)
     }
 }
 
 impl Tables {
-    fn read_file<'a>(&'a mut self, options: Options, text: &'a [u8], tokens: &'a [u32]) -> Result<File<'a>, Refused> {
-        let answer = self.until_room(tokens, |tables, enough| tables.call_file(options, text, tokens, enough));
-        let [_, _, definitions, statements, arguments, _, _] = answer;
-        let end = self.settle(tokens, answer, [definitions, statements, arguments])?;
-        Ok(File { reading: Reading { text, tokens, tables: self }, end })
-    }
-
-    fn read_body<'a>(
-        &'a mut self,
-        options: Options,
-        text: &'a [u8],
-        tokens: &'a [u32],
-        start: usize,
-    ) -> Result<Body<'a>, Refused> {
-        let answer = self.until_room(tokens, |tables, enough| tables.call_body(options, text, tokens, start, enough));
-        let [_, _, statements, arguments, length, _, _] = answer;
-        let end = self.settle(tokens, answer, [0, statements, arguments])?;
-        let plain_length = Some(length).filter(|length| *length != u64::from(NONE));
-        Ok(Body { reading: Reading { text, tokens, tables: self }, end, edition: options.edition, plain_length })
-    }
-
-    /// Leaves nothing to be read, but all the room.
-    fn forget(&mut self) {
-        for table in [&mut self.kept, &mut self.definitions, &mut self.statements, &mut self.arguments] {
-            table.hold(0);
-        }
-    }
-
     /// Calls until no table is too small. A first call takes what is there and a modest size; each answer that asks for more
     /// room gets it. There are three tables and an answer names the whole need of one, so three times suffice; the last
     /// call lends enough for any list, whatever was answered before.
@@ -250,7 +182,7 @@ fn wrote_kept(refusal: Refusal) -> bool {
             | Refusal::StartOutside
             | Refusal::KeptTooShort
             | Refusal::Unknown(_)
-    ) && !refusal.is_lexers()
+    )
 }
 
 fn to_size(number: u64) -> usize {
@@ -311,22 +243,6 @@ mod tests {
         assert_eq!(room.tables.definitions.lend(enough.definitions).len(), 5 * 14);
         assert_eq!(room.tables.statements.lend(enough.statements).len(), 10 * 8);
         assert_eq!(room.tables.arguments.lend(enough.arguments).len(), 10 * 7);
-    }
-
-    /// What a call leaves is that call's: neither an older token list nor an older kept list stands beside it.
-    #[test]
-    fn nothing_of_an_older_call_is_left() {
-        let mut room = Room::new();
-        let text = "{ add }";
-        let tokens = crate::lex(text).unwrap();
-        assert_eq!(room.read_body_text(text, 0).map(|body| body.end()), Ok(3));
-        assert_eq!((room.tokens(), room.kept()), (&tokens[..], &[0, 2, 4, 5][..]));
-        assert_eq!(room.read_text("{ /").unwrap_err().refusal, Refusal::StartsNothing);
-        assert_eq!((room.tokens(), room.kept()), (&[][..], &[][..]));
-        assert_eq!(room.read_text(text).unwrap_err().refusal, Refusal::UnexpectedType);
-        assert_eq!((room.tokens(), room.kept()), (&tokens[..], &[0, 2, 4, 5][..]));
-        assert_eq!(room.read_body(text.as_bytes(), &tokens, 0).map(|body| body.end()), Ok(3));
-        assert_eq!((room.tokens(), room.kept()), (&[][..], &[0, 2, 4, 5][..]));
     }
 
     /// An archive that always asks for more is called four times and then believed.

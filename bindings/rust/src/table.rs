@@ -41,12 +41,6 @@ impl Table {
         self.words.get(..self.records.saturating_mul(self.width)).unwrap_or_default()
     }
 
-    /// The words of all records, without the room behind them.
-    pub(crate) fn into_words(mut self) -> Vec<u32> {
-        self.words.truncate(self.records.saturating_mul(self.width));
-        self.words
-    }
-
     /// The words of one record.
     pub(crate) fn record(&self, number: usize) -> Option<&[u32]> {
         let first = number.checked_mul(self.width)?;

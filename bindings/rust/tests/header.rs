@@ -3,7 +3,6 @@
 mod common;
 
 use common::{Lists, Source};
-use simmerotter::raw;
 use simmerotter::{
     ArgumentForm, DefinitionKind, Edition, FunctionType, Kind, Location, Mode, Refusal, ReservedType, Room, StatementKind,
 };
@@ -60,7 +59,7 @@ fn modes_editions_kinds_and_refusals_are_the_same() {
     assert_eq!(constants().keys().filter(|name| name.starts_with("EDITION_")).count(), 2);
     assert_eq!(assert_same("KIND_", Kind::ALL, |kind| kind.number()), 46);
     assert_eq!(constants().keys().filter(|name| name.starts_with("KIND_")).count(), 46);
-    assert_eq!(assert_same("", Refusal::ALL, |refusal| refusal.number()), 29);
+    assert_eq!(assert_same("", Refusal::ALL, |refusal| refusal.number()), 24);
 }
 
 #[test]
@@ -116,17 +115,6 @@ fn the_words_of_a_definition_s_ranges_are_the_same() {
 }
 
 #[test]
-fn the_numbers_of_the_lexer_s_answer_are_the_same() {
-    let constants = constants();
-    let index = |name: &str| constants[name] as usize;
-    let accepted = raw::lex(b"a b", &mut [0; 16]);
-    assert_eq!((accepted[index("NUMBER")], accepted[index("LEX_TOKENS")]), (u64::from(constants["ACCEPTED"]), 4));
-    assert_eq!(constants["LEX_TOKENS"] + 1, constants["LEX_ANSWER_NUMBERS"], "the last number");
-    let refused = raw::lex(b"a /", &mut [0; 16]);
-    assert_eq!((refused[index("NUMBER")], refused[index("CURSOR")]), (u64::from(constants["STARTS_NOTHING"]), 2));
-}
-
-#[test]
 fn sizes_are_the_same() {
     let constants = constants();
     for (name, value) in [
@@ -137,7 +125,6 @@ fn sizes_are_the_same() {
         ("STATEMENT_WORDS", simmerotter::STATEMENT_WORDS),
         ("ARGUMENT_WORDS", simmerotter::ARGUMENT_WORDS),
         ("ANSWER_NUMBERS", simmerotter::ANSWER_NUMBERS),
-        ("LEX_ANSWER_NUMBERS", simmerotter::LEX_ANSWER_NUMBERS),
         ("NONE", simmerotter::NONE as usize),
     ] {
         assert_eq!(constants.get(name).map(|value| *value as usize), Some(value), "{}", name);

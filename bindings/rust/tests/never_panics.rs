@@ -2,17 +2,15 @@
 
 mod common;
 
-use common::{answer_of, assert_text_ranges, cases, examples, refusal, room_in, Case, Chance, Lists, Setting, Source, SETTINGS};
-use simmerotter::raw::{self, Answer, LexAnswer};
+use common::{answer_of, assert_text_ranges, cases, refusal, room_in, Case, Chance, Lists, Setting, Source, SETTINGS};
+use simmerotter::raw::Answer;
 use simmerotter::{
-    lex, token_at, Argument, Body, Definition, DefinitionKind, File, Kind, Mode, Refusal, Refused, Room, Statement, TokenAt,
-    MAX_TEXT, MAX_TOKENS, NONE, TOKEN_WORDS,
+    Argument, Body, Definition, DefinitionKind, File, Kind, Mode, Refusal, Refused, Room, Statement, TokenAt, MAX_TEXT,
+    MAX_TOKENS, NONE,
 };
 
 const RANDOM_LISTS: usize = 6_000;
 const MUTATED_LISTS: usize = 16_000;
-const RANDOM_TEXTS: usize = 20_000;
-const MUTATED_TEXTS: usize = 8_000;
 
 #[test]
 fn random_words_are_answered() {
@@ -54,155 +52,6 @@ fn mutated_cases_are_answered() {
     // Lists that pass the door are most of what this test is about.
     assert!(tally.accepted > 4_000 && tally.refused_by_grammar > 20_000, "{:?}", tally);
     assert!(tally.views > 40_000 && tally.turned_away > MUTATED_LISTS / 4, "{:?}", tally);
-}
-
-#[test]
-fn random_texts_are_answered() {
-    let mut chance = Chance::new(3);
-    let mut tally = Texts::default();
-    for _ in 0..RANDOM_TEXTS {
-        let text = random_text(&mut chance);
-        tally.read(&text, &mut chance);
-    }
-    println!("random texts: {:?}", tally);
-    assert_eq!(tally.texts, RANDOM_TEXTS);
-    assert!(tally.cut > RANDOM_TEXTS / 4 && tally.by_lexer.iter().all(|count| *count > 500), "{:?}", tally);
-}
-
-#[test]
-fn mutated_examples_are_answered() {
-    let examples = examples();
-    let mut chance = Chance::new(4);
-    let mut tally = Texts::default();
-    for _ in 0..MUTATED_TEXTS {
-        let (_, example) = &examples[chance.below(examples.len())];
-        let text = mutated_text(example, &mut chance);
-        tally.read(&text, &mut chance);
-    }
-    println!("mutated examples: {:?}", tally);
-    assert_eq!(tally.texts, MUTATED_TEXTS);
-    assert!(tally.cut > MUTATED_TEXTS / 2 && tally.by_lexer.iter().all(|count| *count > 30), "{:?}", tally);
-    assert!(tally.calls.accepted > 1_000 && tally.calls.refused_by_grammar > 4_000, "{:?}", tally);
-}
-
-/// Pieces that a lexer tells apart; any byte is one too.
-#[rustfmt::skip]
-const PIECES: [&str; 32] = [
-    " ", "\t\r", "\n", "//", "/*", "*/", "/", "0x", "0", "f", "9", "4294967295", "4294967296", "\"", "'", "#", "define", "include",
-    "{", "}", "(", ":", "table ", "add", "push1", "__", "error", "uint8", "FREE_STORAGE_POINTER", "()", "_a", "=",
-];
-
-fn random_text(chance: &mut Chance) -> Vec<u8> {
-    let mut text = Vec::new();
-    for _ in 0..chance.below(24) {
-        match chance.below(30) {
-            0 => text.push(chance.word() as u8),
-            1 => text.extend(std::iter::repeat(b'0').take(chance.below(80))),
-            _ => text.extend_from_slice(PIECES[chance.below(PIECES.len())].as_bytes()),
-        }
-    }
-    text
-}
-
-/// A part of an example, changed in up to three places.
-fn mutated_text(example: &[u8], chance: &mut Chance) -> Vec<u8> {
-    let start = [0, chance.below(example.len())][chance.below(2)];
-    let mut text = example[start..].to_vec();
-    text.truncate(chance.below(3_000));
-    for _ in 0..chance.below(4) {
-        let at = chance.below(text.len() + 1);
-        let end = (at + chance.below(4)).min(text.len());
-        let piece = PIECES[chance.below(PIECES.len())].as_bytes();
-        match chance.below(4) {
-            0 => drop(text.drain(at..end)),
-            1 => drop(text.splice(at..end, [chance.word() as u8])),
-            _ => drop(text.splice(at..end, piece.iter().copied())),
-        }
-    }
-    text
-}
-
-/// What happened with texts.
-#[derive(Debug, Default)]
-struct Texts {
-    texts: usize,
-    cut: usize,
-    /// Refused with 40, 41, 42.
-    by_lexer: [usize; 3],
-    calls: Tally,
-}
-
-impl Texts {
-    /// Cut by the archive and by the crate, then read: the same, and never 30.
-    fn read(&mut self, text: &[u8], chance: &mut Chance) {
-        let mut enough = vec![common::FILL; TOKEN_WORDS * (text.len() + 1)];
-        let answer = raw::lex(text, &mut enough);
-        self.texts += 1;
-        match lex(text) {
-            Ok(tokens) => {
-                assert_eq!(answer, [0, 0, (tokens.len() / TOKEN_WORDS) as u64]);
-                assert_eq!(enough[..tokens.len()], tokens);
-                assert!(enough[tokens.len()..].iter().all(|word| *word == 0));
-                assert_cover(text, &tokens);
-                self.cut += 1;
-                self.read_tokens(text, &tokens, chance);
-            }
-            Err(refused) => {
-                assert_eq!(Refused::from_lex_answer(answer), Some(refused));
-                assert!(enough.iter().all(|word| *word == common::FILL));
-                self.refuse(text, refused);
-            }
-        }
-        assert_short(text, answer, chance);
-    }
-
-    fn read_tokens(&mut self, text: &[u8], tokens: &[u32], chance: &mut Chance) {
-        for setting in SETTINGS {
-            let mut room = setting.room();
-            self.calls.read_file(setting, &mut room, text, tokens);
-            let file = room.read_file(text, tokens).map(|file| (file.end(), file.definition_words().to_vec()));
-            assert!(!matches!(file, Err(Refused { refusal: Refusal::NotWellFormed, .. })));
-            assert_eq!(room.read_text(text).map(|file| (file.end(), file.definition_words().to_vec())), file);
-            let start = chance.below(room.kept().len() + 2);
-            self.calls.read_body(setting, &mut room, text, tokens, start);
-            let body = room.read_body(text, tokens, start).map(|body| (body.end(), body.plain_length()));
-            assert_eq!(room.read_body_text(text, start).map(|body| (body.end(), body.plain_length())), body);
-            assert_eq!(room.tokens(), tokens);
-        }
-    }
-
-    fn refuse(&mut self, text: &[u8], refused: Refused) {
-        assert!(refused.cursor < text.len() && !refused.to_string().is_empty());
-        let mut room = Room::new();
-        assert_eq!(room.read_text(text).unwrap_err(), refused);
-        assert_eq!(room.read_body_text(text, 0).unwrap_err(), refused);
-        let number = refused.refusal.number() as usize;
-        self.by_lexer[number.checked_sub(40).expect("40 to 42")] += 1;
-    }
-}
-
-/// The tokens' bytes lie one behind the other and cover the text but for strings' quotes.
-fn assert_cover(text: &[u8], tokens: &[u32]) {
-    let mut at = 0;
-    for number in 0..tokens.len() / TOKEN_WORDS {
-        let token = token_at(tokens, number).expect("a token of a known kind");
-        let quote = usize::from(token.kind == Kind::Str);
-        assert_eq!(token.bytes.start, at + quote);
-        at = token.bytes.end + quote;
-    }
-    assert_eq!(at, text.len());
-}
-
-/// With less room: what is refused at a byte still is, and what is not asks for the room.
-fn assert_short(text: &[u8], answer: LexAnswer, chance: &mut Chance) {
-    let count = match answer {
-        [0, 0, count] => count,
-        _ => text.len() as u64 + 1,
-    };
-    let mut short = vec![common::FILL; chance.below(TOKEN_WORDS * count as usize)];
-    let wanted = if answer[0] == 0 { [43, count, 0] } else { answer };
-    assert_eq!(raw::lex(text, &mut short), wanted);
-    assert!(short.iter().all(|word| *word == common::FILL));
 }
 
 /// Small numbers are kinds and positions; the others try the limits of 32 bits.

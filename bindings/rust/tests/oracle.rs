@@ -3,8 +3,8 @@
 
 mod common;
 
-use common::{answer_of, assert_text_ranges, cases, cut_cases, Case, Setting, FILL, SETTINGS};
-use simmerotter::raw::{self, Answer};
+use common::{answer_of, assert_text_ranges, cases, Case, Setting, SETTINGS};
+use simmerotter::raw::Answer;
 use simmerotter::{Body, Definition, Edition, File, Mode, Refused, Room, Statement};
 
 /// Of cases in all, of strict ones, of bodies in the second edition: with fewer these tests would show less than they say.
@@ -27,23 +27,6 @@ fn the_archive_leaves_what_the_cases_say() {
     }
     println!("{} answers of the Rust, {} of the rules in mixed modes and {} by hand, all the same", of_rust, of_rules, by_hand);
     assert!(of_rust >= 3_000 && of_rules >= 800 && by_hand >= 200, "only {}, {} and {} cases", of_rust, of_rules, by_hand);
-}
-
-#[test]
-fn the_archive_cuts_texts_as_the_cases_say() {
-    let (mut accepted, mut refused) = (0, 0);
-    for case in &cut_cases() {
-        let mut tokens = vec![FILL; case.wanted.len()];
-        let answer = raw::lex(&case.text, &mut tokens);
-        assert_eq!(answer, case.answer, "answer of line {}", case.line);
-        assert_eq!(tokens, case.wanted, "list of line {}", case.line);
-        match answer[0] {
-            0 => accepted += 1,
-            _ => refused += 1,
-        }
-    }
-    println!("{} cases of texts accepted and {} refused, all the same", accepted, refused);
-    assert!(accepted >= 300 && refused >= 100, "only {} and {} texts", accepted, refused);
 }
 
 #[test]

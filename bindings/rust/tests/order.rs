@@ -4,8 +4,8 @@
 mod common;
 
 use common::{refusal, Source};
-use simmerotter::raw::{self, Answer, LexAnswer};
-use simmerotter::{Edition, Kind, Mode, ANSWER_NUMBERS, MAX_TEXT, MAX_TOKENS, TOKEN_WORDS};
+use simmerotter::raw::{self, Answer};
+use simmerotter::{Edition, Mode, ANSWER_NUMBERS};
 
 const GUARD: u32 = 0xdead_beef;
 const GUARDS: usize = 64;
@@ -385,81 +385,4 @@ fn a_type_is_told_behind_the_kept_list_and_before_the_tables() {
         call.assert_cleared(8);
         assert!(call.definitions.is_zero());
     }
-}
-
-/// Cuts a text into a list of so many words between guard words.
-fn cut(text: &[u8], length: usize) -> (LexAnswer, Guarded) {
-    let mut tokens = Guarded::new(length, FILLS[0]);
-    let answer = raw::lex(text, tokens.lent());
-    assert!(tokens.guards_stand());
-    (answer, tokens)
-}
-
-fn assert_cut_refused(text: &[u8], length: usize, number: u64, cursor: u64) {
-    let (answer, tokens) = cut(text, length);
-    assert_eq!(answer, [number, cursor, 0]);
-    assert!(tokens.is_untouched());
-}
-
-/// Six tokens and thirteen bytes.
-const CUT: &[u8] = b"{mstore 0xff}";
-
-#[rustfmt::skip]
-const CUT_TOKENS: [u32; 24] = [
-    Kind::OpenBrace as u32, 0, 1, 0,
-    Kind::Opcode as u32, 1, 7, 0x52,
-    Kind::Whitespace as u32, 7, 8, 0,
-    Kind::Literal as u32, 8, 12, 0,
-    Kind::CloseBrace as u32, 12, 13, 0,
-    Kind::Eof as u32, 13, 13, 0,
-];
-
-#[test]
-fn a_text_is_written_into_its_list_and_zeros_behind_it() {
-    for extra in [0, 1, 2, 3, 4, 7, 40] {
-        let (answer, tokens) = cut(CUT, CUT_TOKENS.len() + extra);
-        assert_eq!(answer, [0, 0, 6]);
-        assert_starts_and_ends(&tokens, &CUT_TOKENS, 0);
-    }
-}
-
-/// Words that make no whole token are no room.
-#[test]
-fn a_token_list_that_is_too_short_is_told_the_need() {
-    for length in 0..CUT_TOKENS.len() {
-        assert_cut_refused(CUT, length, 43, 6);
-    }
-}
-
-#[test]
-fn a_text_is_measured() {
-    let (answer, tokens) = cut(&CUT[..8], 20);
-    assert_eq!(answer, [0, 0, 4]);
-    assert_starts_and_ends(&tokens, &[&CUT_TOKENS[..12], &[Kind::Eof as u32, 8, 8, 0]].concat(), 0);
-    assert_eq!(cut(b"", 4).0, [0, 0, 1]);
-    assert_cut_refused(b"", 3, 43, 1);
-}
-
-/// A text that would be refused for each of the reasons gets the first by number 39, by byte 40 to 42, and 43 last.
-#[test]
-fn the_lexer_s_refusals_come_in_their_order() {
-    let mut long = b"\t 0x \"".to_vec();
-    long.resize(MAX_TEXT + 1, b'=');
-    for length in [0, 40] {
-        assert_cut_refused(&long, length, 39, 0);
-        assert_cut_refused(&long[..MAX_TEXT], length, 40, 2);
-        assert_cut_refused(b"\t \" 0x 4294967296", length, 41, 2);
-        assert_cut_refused(b"\t 4294967296 0x", length, 42, 2);
-    }
-    assert_cut_refused(b"\t a\t a", 16, 43, 5);
-}
-
-/// However much is lent.
-#[test]
-fn a_list_has_no_more_tokens_than_the_limit() {
-    let text = vec![b'='; MAX_TOKENS];
-    let most = MAX_TOKENS as u64;
-    assert_eq!(cut(&text[1..], TOKEN_WORDS * MAX_TOKENS).0, [0, 0, most]);
-    assert_cut_refused(&text[1..], TOKEN_WORDS * MAX_TOKENS - 1, 43, most);
-    assert_cut_refused(&text, TOKEN_WORDS * (MAX_TOKENS + 9), 43, most + 1);
 }

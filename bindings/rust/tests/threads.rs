@@ -2,8 +2,8 @@
 
 mod common;
 
-use common::{cases, examples, room_in, Case, Chance, Left, Source};
-use simmerotter::{lex, Mode, Room};
+use common::{cases, room_in, Case, Chance, Left, Source};
+use simmerotter::{Mode, Room};
 use std::sync::{Arc, Barrier};
 use std::thread;
 
@@ -122,25 +122,4 @@ fn names(source: &Source) -> Vec<Vec<u8>> {
     let mut room = Room::new();
     let file = room.read_file(&source.text, &source.tokens).expect("a file that follows the rules");
     file.definitions().map(|definition| definition.name().to_vec()).collect()
-}
-
-/// Each thread begins with another text.
-#[test]
-fn texts_are_cut_at_once() {
-    let texts: Vec<Vec<u8>> = examples().into_iter().map(|(_, text)| text).collect();
-    let alone: Vec<_> = texts.iter().map(lex).collect();
-    let shared = Arc::new((texts, alone));
-    let threads: Vec<_> = (0..4)
-        .map(|thread| {
-            let shared = shared.clone();
-            thread::spawn(move || {
-                let (texts, alone) = &*shared;
-                for index in 0..100 * texts.len() {
-                    let index = (index + thread) % texts.len();
-                    assert_eq!(lex(&texts[index]), alone[index]);
-                }
-            })
-        })
-        .collect();
-    threads.into_iter().for_each(|thread| thread.join().expect("a thread without a difference"));
 }

@@ -250,13 +250,11 @@ fn numbers_and_names_belong_together() {
     }
     assert_eq!(Kind::from_number(46), None);
     let numbers: Vec<_> = Refusal::ALL.iter().map(|refusal| refusal.number()).collect();
-    let wanted: Vec<_> = (1..=13).chain(20..=22).chain(30..=36).chain(38..=43).collect();
+    let wanted: Vec<_> = (1..=13).chain(20..=22).chain(30..=36).chain([38]).collect();
     assert_eq!(numbers, wanted);
     for refusal in Refusal::ALL {
         assert_eq!(Refusal::from_number(refusal.number()), Some(refusal));
         assert_eq!(refusal.name(), format!("{:?}", refusal));
     }
-    assert_eq!([0, 14, 23, 29, 37, 44].map(Refusal::from_number), [None; 6]);
-    let of_the_lexer: Vec<_> = Refusal::ALL.into_iter().filter(|refusal| refusal.is_lexers()).map(Refusal::number).collect();
-    assert_eq!(of_the_lexer, [39, 40, 41, 42, 43]);
+    assert_eq!([0, 14, 23, 29, 37, 39].map(Refusal::from_number), [None; 6]);
 }

@@ -4,9 +4,8 @@
 use simmerotter::{push_token, Kind};
 use std::ffi::OsStr;
 use std::fs;
-use std::io::Write;
 use std::path::PathBuf;
-use std::process::{Command, Output, Stdio};
+use std::process::{Command, Stdio};
 
 /// What a run printed, and its status.
 #[derive(Debug, PartialEq, Eq)]
@@ -23,20 +22,7 @@ pub fn command() -> Command {
 }
 
 pub fn run<S: AsRef<OsStr>>(arguments: &[S]) -> Run {
-    finished(command().args(arguments).output().unwrap())
-}
-
-/// A run with these bytes on its standard input.
-pub fn run_with<S: AsRef<OsStr>>(arguments: &[S], input: &[u8]) -> Run {
-    let mut command = command();
-    command.args(arguments).stdin(Stdio::piped()).stdout(Stdio::piped()).stderr(Stdio::piped());
-    let mut child = command.spawn().unwrap();
-    // It may stop reading before the end.
-    let _ = child.stdin.take().unwrap().write_all(input);
-    finished(child.wait_with_output().unwrap())
-}
-
-fn finished(done: Output) -> Run {
+    let done = command().args(arguments).output().unwrap();
     Run { out: String::from_utf8(done.stdout).unwrap(), err: String::from_utf8(done.stderr).unwrap(), status: done.status.code() }
 }
 
@@ -57,7 +43,7 @@ pub fn bytes_of(words: &[u32]) -> Vec<u8> {
     words.iter().flat_map(|word| word.to_le_bytes()).collect()
 }
 
-/// A text and its token list, written down.
+/// A text and its list, written down.
 pub struct Input {
     pub text: PathBuf,
     pub words: PathBuf,
@@ -74,77 +60,34 @@ impl Input {
 
     pub fn run(&self, options: &[&str]) -> Run {
         let mut arguments: Vec<&OsStr> = options.iter().map(OsStr::new).collect();
-        arguments.extend([OsStr::new("--tokens"), self.words.as_os_str(), self.text.as_os_str()]);
+        arguments.extend([self.text.as_os_str(), self.words.as_os_str()]);
         run(&arguments)
     }
 
-    pub fn refused(&self, options: &[&str]) -> String {
-        self.run(options).refused()
-    }
-
-    pub fn accepted(&self, options: &[&str]) -> String {
-        self.run(options).accepted()
-    }
-
-    pub fn warned(&self, options: &[&str]) -> (String, String) {
-        self.run(options).warned()
-    }
-}
-
-/// A text alone, written down: the command cuts it.
-pub struct Text {
-    pub path: PathBuf,
-}
-
-impl Text {
-    /// `name` has to differ from test to test: they run at the same time.
-    pub fn new(name: &str, text: impl AsRef<[u8]>) -> Text {
-        let path = path(&format!("{}.huff", name));
-        fs::write(&path, text).unwrap();
-        Text { path }
-    }
-
-    pub fn run(&self, options: &[&str]) -> Run {
-        let mut arguments: Vec<&OsStr> = options.iter().map(OsStr::new).collect();
-        arguments.push(self.path.as_os_str());
-        run(&arguments)
-    }
-
-    pub fn refused(&self, options: &[&str]) -> String {
-        self.run(options).refused()
-    }
-
-    pub fn accepted(&self, options: &[&str]) -> String {
-        self.run(options).accepted()
-    }
-
-    pub fn warned(&self, options: &[&str]) -> (String, String) {
-        self.run(options).warned()
-    }
-}
-
-impl Run {
     /// What a refused run tells a person, without the folder's name.
-    fn refused(self) -> String {
-        assert_eq!((self.status, self.out.as_str()), (Some(1), ""), "{}", self.err);
-        without_folder(&self.err)
+    pub fn refused(&self, options: &[&str]) -> String {
+        let run = self.run(options);
+        assert_eq!((run.status, run.out.as_str()), (Some(1), ""), "{}", run.err);
+        self.without_folder(&run.err)
     }
 
     /// What an accepted run tells a person or a program, without the folder's name.
-    fn accepted(self) -> String {
-        assert_eq!((self.status, self.err.as_str()), (Some(0), ""), "{}", self.out);
-        without_folder(&self.out)
+    pub fn accepted(&self, options: &[&str]) -> String {
+        let run = self.run(options);
+        assert_eq!((run.status, run.err.as_str()), (Some(0), ""), "{}", run.out);
+        self.without_folder(&run.out)
     }
 
-    /// What a run that was accepted with a warning or a note tells a person: both outputs, without the folder's name.
-    fn warned(self) -> (String, String) {
-        assert_eq!(self.status, Some(0), "{}", self.err);
-        (without_folder(&self.out), without_folder(&self.err))
+    /// What a run that was accepted with a warning tells a person: both outputs, without the folder's name.
+    pub fn warned(&self, options: &[&str]) -> (String, String) {
+        let run = self.run(options);
+        assert_eq!(run.status, Some(0), "{}", run.err);
+        (self.without_folder(&run.out), self.without_folder(&run.err))
     }
-}
 
-fn without_folder(printed: &str) -> String {
-    printed.replace(&format!("{}/", env!("CARGO_TARGET_TMPDIR")), "")
+    fn without_folder(&self, printed: &str) -> String {
+        printed.replace(&format!("{}/", env!("CARGO_TARGET_TMPDIR")), "")
+    }
 }
 
 /// The list of these tokens, each found in the text behind the one before, and an Eof at the text's end.

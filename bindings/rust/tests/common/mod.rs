@@ -1,8 +1,8 @@
-//! What the tests share: the fixed sample, the sample of texts, token lists written by hand, lent lists and chance.
+//! What the tests share: the fixed sample, token lists written by hand, lent lists and chance.
 
 #![allow(dead_code)]
 
-use simmerotter::raw::{self, Answer, LexAnswer};
+use simmerotter::raw::{self, Answer};
 use simmerotter::{push_token, Edition, File, Kind, Mode, Options, Refused, Room, TOKEN_WORDS};
 use std::fs;
 use std::path::Path;
@@ -159,7 +159,7 @@ pub fn room_in(mode: Mode) -> Room {
 
 /// Every case of the fixed sample: all of its lines but headings and those that are answered by a single word.
 pub fn cases() -> Vec<Case> {
-    let [lines, answers] = sample("crates/cases");
+    let (lines, answers) = (sample("stdin"), sample("stdout"));
     assert_eq!(lines.split('\n').count(), answers.lines().count(), "an answer to each line");
     let mut section = "";
     let mut cases = Vec::new();
@@ -173,48 +173,9 @@ pub fn cases() -> Vec<Case> {
     cases
 }
 
-/// A text of `oracle/texts/stdin` that is cut into tokens, with its answer in `oracle/texts/stdout`.
-pub struct CutCase {
-    pub line: usize,
-    pub text: Vec<u8>,
-    pub answer: LexAnswer,
-    pub wanted: Vec<u32>,
-}
-
-/// Every text of the sample of texts that is answered in full.
-pub fn cut_cases() -> Vec<CutCase> {
-    let [lines, answers] = sample("oracle/texts");
-    let pairs = lines.split('\n').zip(answers.lines()).enumerate();
-    let texts = pairs.filter(|(_, (line, answer))| line.starts_with("L ") && !answer.starts_with("X_"));
-    texts.map(|(index, (line, answer))| cut_case(index + 1, line, answer)).collect()
-}
-
-fn cut_case(line: usize, fields: &str, answer: &str) -> CutCase {
-    let fields: Vec<&str> = fields.split(' ').collect();
-    let parts: Vec<&str> = answer.split('|').collect();
-    assert_eq!((fields.len(), parts.len()), (3, 2), "fields and parts of line {}", line);
-    let numbers: Vec<u64> = parts[0].split(' ').map(|number| u64::from(word(number))).collect();
-    let wanted = words(parts[1]);
-    assert_eq!(size(fields[1]), wanted.len(), "length of line {}", line);
-    CutCase { line, text: bytes(fields[2]), answer: numbers.try_into().expect("three numbers"), wanted }
-}
-
-/// The lines of a sample, and their answers.
-fn sample(folder: &str) -> [String; 2] {
-    ["stdin", "stdout"].map(|name| {
-        let path = Path::new(env!("CARGO_MANIFEST_DIR")).join("../..").join(folder).join(name);
-        fs::read_to_string(&path).unwrap_or_else(|error| panic!("{}: {}", path.display(), error))
-    })
-}
-
-/// The contracts of examples/, each with its name.
-pub fn examples() -> Vec<(String, Vec<u8>)> {
-    let folder = Path::new(env!("CARGO_MANIFEST_DIR")).join("../../examples");
-    let entries = fs::read_dir(&folder).unwrap_or_else(|error| panic!("{}: {}", folder.display(), error));
-    let mut paths: Vec<_> = entries.map(|entry| entry.expect("an entry").path()).collect();
-    paths.retain(|path| path.extension().map_or(false, |extension| extension == "huff"));
-    paths.sort();
-    paths.into_iter().map(|path| (path.display().to_string(), fs::read(&path).expect("a text"))).collect()
+fn sample(name: &str) -> String {
+    let path = Path::new(env!("CARGO_MANIFEST_DIR")).join("../../crates/cases").join(name);
+    fs::read_to_string(&path).unwrap_or_else(|error| panic!("{}: {}", path.display(), error))
 }
 
 fn case(line: usize, section: &str, fields: &str, answer: &str) -> Case {
