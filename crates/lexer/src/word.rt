@@ -62,6 +62,7 @@ fn by_place(table: &[u8], c: Context, word: &[u8]) -> Word
 }
 
 // The word's kind and extra, with this byte behind it.
+#[tactic(auto, unfolding(lexemes::specs::Words::word_of))]
 pub fn word_of(table: &[u8], c: Context, word: &[u8], next: u8) -> Word
     requires { table.now ≡ spellings }
     ensures { (result.kind, result.extra) ≡ word_of c word.now next }

@@ -39,6 +39,7 @@ fn names_after(names: usize, form: u32) -> usize
 }
 
 // A list's arguments and its `)`, from the place behind its `(`. The records go into the table from number n on.
+#[tactic(auto, using(crate::proofs::ListLaws::listing_comma, crate::proofs::ListLaws::argument_within))]
 fn parse_list(
     text: &[u8],
     tokens: &[u32],

@@ -10,10 +10,6 @@ pub returns-then-in_code : goal.returns-then-in_code
 unfolding word_of
 returns-then-in_code c = c.plain_word.ensures ∙ rw (sym c.in_code.ensures ∙ c.if-in_code.true)
 
-pub returns-then-next-eq58 : goal.returns-then-next-eq58
-unfolding word_of
-returns-then-next-eq58 c = c.plain_word-then-next-eq58.ensures ∙ rw (sym c.in_code.ensures ∙ c.if-in_code.false, eq-eqb c.args.next (code ":") c.if-next-eq58.true)
-
 pub returns-then-begins_with : goal.returns-then-begins_with
 unfolding word_of bytes
 returns-then-begins_with c = c.plain_word-then-begins_with.ensures ∙ rw (sym c.in_code.ensures ∙ c.if-in_code.false, ne_eqb c.args.next (code ":") c.if-next-eq58.false, eq-eqb c.args.next (code "(") c.if-next-eq40.true, sym c.begins_with.ensures ∙ c.if-begins_with.true)

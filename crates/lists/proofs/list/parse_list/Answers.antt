@@ -1,7 +1,7 @@
 -- The loop's invariant is `Listing`: what is left to read comes to what there was at the start. The measure is what is left of the kept list.
 use mathlib.Core.Path.{refl}
 use native.Mathlib.Omega.{arith}
-use Rattle.lists.proofs.ListLaws.{argument_within, listing_comma, listing_alone, listing_refused, listing_closed}
+use Rattle.lists.proofs.ListLaws.{argument_within, listing_alone, listing_refused, listing_closed}
 use borrow.Author.Rules.{rules}
 use Rattle.lists.proofs.list.parse_list.Goals as goal
 
@@ -22,14 +22,6 @@ returns-in-Refused c = listing_refused c.loop-sort.invariant c.kind_at.ensures c
 
 pub overflow_add-q : goal.overflow_add-q
 overflow_add-q c = let few = c.requires.place.list.few in search rules
-
-pub loop-sort-smaller-then-kind_at-eq-COMMA : goal.loop-sort-smaller-then-kind_at-eq-COMMA
-loop-sort-smaller-then-kind_at-eq-COMMA c =
-    let w = argument_within c.in-One.is c.one_argument.ensures in
-    omega (arith, c.loop-sort.invariant.inside)
-
-pub loop-sort-preserved-then-kind_at-eq-COMMA : goal.loop-sort-preserved-then-kind_at-eq-COMMA
-loop-sort-preserved-then-kind_at-eq-COMMA c = listing_comma c.loop-sort.invariant c.kind_at.ensures c.if-kind_at-eq-CLOSE_PAREN.false c.one_argument.ensures c.in-One.is c.kind_at-in-One.ensures c.put_argument.ensures c.if-kind_at-eq-COMMA.true
 
 pub names_after-names-requires : goal.names_after-names-requires
 names_after-names-requires c = let few = c.requires.place.list.few in search rules
