@@ -1,53 +1,66 @@
-// What a case lends: the text, the token list, and the first words of four lists, each exactly as long as the case says.
-use crate::room::{FIRST_WORD, NUMBERS_ROOM, least};
+// What a case lends: the first words of four lists, each exactly as long as the case says.
+ghost use Rattle.std.specs.Prelude.{◌≡◌, ◌<◌, replicate, length, MatchResult, IfOk};
+
+use crate::answer::NoAnswer;
+use crate::room::{ARGUMENTS_ROOM, DEFINITIONS_ROOM, KEPT_ROOM, STATEMENTS_ROOM};
 
 // What every lent word holds before the call, so that a word left alone can be told from one written.
-const FILLER: u32 = 2779096485;
-
-// The numbers before the words, in the order in which a line has them: the call's mode, a body's edition, its place, and the lengths of the four lists.
-#[derive(Clone, Copy)]
-pub struct Sizes {
-    pub mode: u32,
-    // 0 for a file, which has none.
-    pub edition: u32,
-    pub start: u32,
-    pub kept: u32,
-    pub definitions: u32,
-    pub statements: u32,
-    pub arguments: u32,
-}
-
-pub fn sizes_of(numbers: &[u32; NUMBERS_ROOM]) -> Sizes {
-    Sizes {
-        mode: numbers[0],
-        edition: numbers[1],
-        start: numbers[2],
-        kept: numbers[3],
-        definitions: numbers[4],
-        statements: numbers[5],
-        arguments: numbers[6],
-    }
-}
-
-pub fn first_bytes(text: &[u8], n: usize) -> &[u8] {
-    let end = least(n, text.len());
-    &text[0..end]
-}
-
-// Of the first n numbers, the words.
-pub fn tokens_of(numbers: &[u32], n: usize) -> &[u32] {
-    let end = least(n, numbers.len());
-    let start = least(FIRST_WORD, end);
-    &numbers[start..end]
-}
+const FILLER: u32 = 0xa5a5_a5a5;
 
 // The first n words of a list as they are before the call. The others are not filled, so that a small case costs little.
-pub fn lent(list: &mut [u32], n: u32) -> &mut [u32] {
-    let end = least(n as usize, list.len());
-    let mut i = 0;
-    while i < end {
-        list[i] = FILLER;
-        i += 1;
+pub fn lent(list: &mut [u32], n: u32) -> Result<&mut [u32], NoAnswer>
+    ensures { MatchResult result (λ part. part.now ≡ replicate n FILLER) (λ _. length list.old < n) }
+{
+    let part = list.get_mut(..n as usize).ok_or(NoAnswer::TooLarge)?;
+    part.fill(FILLER);
+    Ok(part)
+}
+
+// Something for each of the four lists: its length, or its words.
+#[derive(Drop)]
+pub struct Lists<T> {
+    pub kept: T,
+    pub definitions: T,
+    pub statements: T,
+    pub arguments: T,
+}
+
+// The room that the four lists are lent from.
+#[derive(Drop)]
+pub struct Room {
+    pub kept: [u32; KEPT_ROOM],
+    pub definitions: [u32; DEFINITIONS_ROOM],
+    pub statements: [u32; STATEMENTS_ROOM],
+    pub arguments: [u32; ARGUMENTS_ROOM],
+}
+
+impl Room {
+    pub fn new() -> Room {
+        Room {
+            kept: [0; KEPT_ROOM],
+            definitions: [0; DEFINITIONS_ROOM],
+            statements: [0; STATEMENTS_ROOM],
+            arguments: [0; ARGUMENTS_ROOM],
+        }
     }
-    &mut list[0..end]
+
+    pub fn lend(&mut self, lengths: Lists<u32>) -> Result<Lists<&mut [u32]>, NoAnswer>
+        ensures kept { IfOk result (λ lists. lists.kept.now ≡ replicate lengths.kept FILLER) }
+        ensures definitions { IfOk result (λ lists. lists.definitions.now ≡ replicate lengths.definitions FILLER) }
+        ensures statements { IfOk result (λ lists. lists.statements.now ≡ replicate lengths.statements FILLER) }
+        ensures arguments { IfOk result (λ lists. lists.arguments.now ≡ replicate lengths.arguments FILLER) }
+    {
+        let Room {
+            kept,
+            definitions,
+            statements,
+            arguments,
+        } = self;
+        Ok(Lists {
+            kept: lent(kept, lengths.kept)?,
+            definitions: lent(definitions, lengths.definitions)?,
+            statements: lent(statements, lengths.statements)?,
+            arguments: lent(arguments, lengths.arguments)?,
+        })
+    }
 }

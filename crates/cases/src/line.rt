@@ -1,33 +1,8 @@
-// A line of the input, byte by byte: docs/CASES.md, "A case". No line is held: its text and its numbers go into lists, what else is known of it into a Line.
-use crate::room::{FIRST_WORD, NUMBERS_ROOM, TEXT_ROOM};
-use tokens::{digit_value, is_hex};
+// A line of the input, byte by byte: docs/CASES.md, "A case". The line itself is not held: its text and its numbers are, and where in it the next byte stands.
+ghost use Rattle.std.specs.Prelude.{◌≡◌, ◌+◌, ◌*◌, IfSome};
 
-// The entries by their letters: a whole file, one body, a text that is cut into tokens.
-const FILE: u8 = b'F';
-
-pub const BODY: u8 = b'B';
-
-pub const LEXER: u8 = b'L';
-
-// Where in a line its next byte stands: at ENTRY, in the numbers before TEXT, in TEXT, in WORDS. An END is behind ENTRY's letter or behind a `-`.
-const ENTRY: usize = 0;
-
-const ENTRY_END: usize = 1;
-
-const NUMBERS: usize = 2;
-
-const EDITION_END: usize = 3;
-
-const TEXT: usize = 4;
-
-const TEXT_END: usize = 5;
-
-const WORDS: usize = 6;
-
-const WORDS_END: usize = 7;
-
-// The line is no case, and is only read to its end.
-pub const REFUSED: usize = 8;
+use crate::filled::{Filled, Full};
+use crate::room::{BEFORE_WORDS, NUMBERS_ROOM, TEXT_ROOM};
 
 // How many numbers stand before EDITION.
 const BEFORE_EDITION: usize = 1;
@@ -35,261 +10,233 @@ const BEFORE_EDITION: usize = 1;
 // A number has at most so many digits, and is at most what 32 bits hold.
 const MOST_DIGITS: usize = 10;
 
-const MOST: u64 = 4294967295;
+// The entries: a whole file, one body, a text that is cut into tokens.
+#[derive(Clone, Copy, PartialEq, Eq)]
+pub enum Entry {
+    File,
+    Body,
+    Lexer,
+}
+
+impl Entry {
+    // No TryFrom: it would need an error type that nobody reads.
+    fn of(letter: u8) -> Option<Entry> {
+        match letter {
+            b'F' => Some(Entry::File),
+            b'B' => Some(Entry::Body),
+            b'L' => Some(Entry::Lexer),
+            _ => None,
+        }
+    }
+
+    // How many numbers stand before TEXT: MODE to ARGS, or TOKENS alone.
+    fn before_text(self) -> usize {
+        match self {
+            Entry::Lexer => 1,
+            Entry::File | Entry::Body => BEFORE_WORDS,
+        }
+    }
+
+    // What stands behind TEXT: WORDS, or of a text that is cut nothing.
+    fn behind_text(self) -> Option<Place> {
+        match self {
+            Entry::Lexer => None,
+            Entry::File | Entry::Body => Some(Place::Words(self)),
+        }
+    }
+}
+
+// Where in a line its next byte stands: at the entry, in the numbers before the text, in the text, in the words. An end is behind the entry's letter or behind a `-`.
+#[derive(Clone, Copy)]
+enum Place {
+    Entry,
+    EntryEnd(Entry),
+    Numbers(Entry),
+    // Only a file's edition is a `-`.
+    EditionEnd,
+    Text(Entry),
+    TextEnd(Entry),
+    Words(Entry),
+    WordsEnd(Entry),
+}
+
+// A number as far as it has been read: how many digits, and what they write.
+#[derive(Clone, Copy, Default)]
+struct Number {
+    digits: usize,
+    value: u32,
+}
+
+impl Number {
+    // With one digit more, unless it is too long or too large then. The library's readers of numbers are inside it: a case is read without them.
+    fn with(self, digit: u32) -> Option<Number>
+        ensures { IfSome result (λ n. (n.digits ≡ self.digits + 1) × (n.value ≡ self.value * 10 + digit)) }
+    {
+        if MOST_DIGITS <= self.digits {
+            return None;
+        }
+        Some(Number {
+            digits: self.digits + 1,
+            value: self.value.checked_mul(10)?.checked_add(digit)?,
+        })
+    }
+}
 
 // What is known of a line so far.
-#[derive(Clone, Copy)]
+#[derive(Drop)]
 pub struct Line {
-    // Where the next byte stands.
-    pub place: usize,
-    // Its end has been read.
-    pub whole: bool,
-    // ENTRY's letter.
-    pub entry: u8,
-    // How many digits of the present number, or of the present byte of the text, have been read, and what they write.
-    pub digits: usize,
-    pub value: u32,
-    // How many bytes of text and how many numbers have been read and kept.
-    pub bytes: usize,
-    pub numbers: usize,
-    // There was no room for more of them.
-    pub large: bool,
+    pub text: Filled<u8, TEXT_ROOM>,
+    pub numbers: Filled<u32, NUMBERS_ROOM>,
+    // Whether there was room for all of them.
+    pub fits: Result<(), Full>,
+    // Where the next byte stands. Nowhere: the line is no case, and is only read to its end.
+    place: Option<Place>,
+    // The present number, if a digit of it has been read.
+    number: Option<Number>,
+    // What the first digit of the present byte of the text is worth in it, if it has been read.
+    high: Option<u8>,
 }
 
-pub fn new_line() -> Line {
-    Line {
-        place: ENTRY,
-        whole: false,
-        entry: FILE,
-        digits: 0,
-        value: 0,
-        bytes: 0,
-        numbers: 0,
-        large: false,
+impl Line {
+    // Before the first byte.
+    pub fn new() -> Line {
+        Line {
+            text: Filled::new(0),
+            numbers: Filled::new(0),
+            fits: Ok(()),
+            place: Some(Place::Entry),
+            number: None,
+            high: None,
+        }
     }
-}
 
-fn at_place(mut line: Line, place: usize) -> Line {
-    line.place = place;
-    line
-}
+    // The next line begins.
+    pub fn restart(&mut self) {
+        self.text.clear();
+        self.numbers.clear();
+        self.fits = Ok(());
+        self.place = Some(Place::Entry);
+        self.number = None;
+        self.high = None;
+    }
 
-fn refused(line: Line) -> Line {
-    at_place(line, REFUSED)
-}
+    // One byte of the line.
+    pub fn read(&mut self, byte: u8) {
+        self.place = self.place_behind(byte);
+    }
 
-// F, B or L.
-fn read_entry(mut line: Line, byte: u8) -> Line {
-    line.place = ENTRY_END;
-    line.entry = byte;
-    match byte {
-        FILE => line,
-        BODY => line,
-        LEXER => line,
-        _ => refused(line),
+    // The line's end: of a case, it stands in or behind the last field. Which entry the case is for, if it is one.
+    pub fn end(&mut self) -> Option<Entry> {
+        match self.place? {
+            Place::Text(Entry::Lexer) => {
+                self.end_text()?;
+                Some(Entry::Lexer)
+            }
+            Place::TextEnd(Entry::Lexer) => Some(Entry::Lexer),
+            Place::Words(entry) => {
+                self.end_number()?;
+                Some(entry)
+            }
+            Place::WordsEnd(entry) => Some(entry),
+            _ => None,
+        }
     }
-}
 
-// The one space behind ENTRY's letter, or behind the `-` of a file's edition or of the text.
-fn read_space(line: Line, byte: u8, next: usize) -> Line {
-    if byte == b' ' {
-        return at_place(line, next);
+    // Where the byte behind this one stands. Nowhere, if the line is no case.
+    fn place_behind(&mut self, byte: u8) -> Option<Place> {
+        match self.place? {
+            Place::Entry => Some(Place::EntryEnd(Entry::of(byte)?)),
+            Place::EntryEnd(entry) => (byte == b' ').then_some(Place::Numbers(entry)),
+            Place::Numbers(entry) => self.read_numbers(entry, byte),
+            Place::EditionEnd => self.end_no_edition(byte),
+            Place::Text(entry) => self.read_text(entry, byte),
+            Place::TextEnd(entry) => (byte == b' ').then_some(entry.behind_text()?),
+            Place::Words(entry) => self.read_words(entry, byte),
+            Place::WordsEnd(_) => None,
+        }
     }
-    refused(line)
-}
 
-// One more digit of a number.
-fn add_digit(mut line: Line, digit: u8) -> Line {
-    let digits = line.digits;
-    if MOST_DIGITS <= digits {
-        return refused(line);
+    // Numbers, each with a space behind it; a file has none in the edition's place.
+    fn read_numbers(&mut self, entry: Entry, byte: u8) -> Option<Place> {
+        if entry == Entry::File && self.numbers.len() == BEFORE_EDITION {
+            return (byte == b'-').then_some(Place::EditionEnd);
+        }
+        if byte != b' ' {
+            self.read_digit(byte)?;
+            return Some(Place::Numbers(entry));
+        }
+        self.end_number()?;
+        if self.numbers.len() == entry.before_text() {
+            return Some(Place::Text(entry));
+        }
+        Some(Place::Numbers(entry))
     }
-    let value = line.value as u64 * 10 + digit as u64;
-    if MOST < value {
-        return refused(line);
-    }
-    line.value = value as u32;
-    line.digits = digits + 1;
-    line
-}
 
-// A byte of a number: a decimal digit.
-fn read_digit(line: Line, byte: u8) -> Line {
-    match byte {
-        b'0'..=b'9' => add_digit(line, byte - b'0'),
-        _ => refused(line),
+    // The space behind the `-` of a file's edition: 0 is kept in the edition's place, since `answer_case` takes the numbers
+    // by their places. The call for a file has no edition, so nobody reads it.
+    fn end_no_edition(&mut self, byte: u8) -> Option<Place> {
+        self.keep_number(0);
+        (byte == b' ').then_some(Place::Numbers(Entry::File))
     }
-}
 
-// A number is whole, and the next one begins.
-fn keep_number(mut line: Line, numbers: &mut [u32; NUMBERS_ROOM]) -> Line {
-    if line.digits == 0 {
-        return refused(line);
+    // Bytes of two hex digits each and a space, or `-`.
+    fn read_text(&mut self, entry: Entry, byte: u8) -> Option<Place> {
+        match byte {
+            b' ' => {
+                self.end_text()?;
+                entry.behind_text()
+            }
+            b'-' => (self.text.len() == 0 && self.high.is_none()).then_some(Place::TextEnd(entry)),
+            _ => {
+                self.read_hex(byte)?;
+                Some(Place::Text(entry))
+            }
+        }
     }
-    let at = line.numbers;
-    let number = line.value;
-    line.digits = 0;
-    line.value = 0;
-    if at < NUMBERS_ROOM {
-        numbers[at] = number;
-        line.numbers = at + 1;
-        return line;
-    }
-    line.large = true;
-    line
-}
 
-// EDITION of a file: `-` and no number.
-fn read_no_edition(line: Line, byte: u8) -> Line {
-    if byte == b'-' {
-        return at_place(line, EDITION_END);
+    // Numbers joined by commas, or `-`. The line's end ends the last number.
+    fn read_words(&mut self, entry: Entry, byte: u8) -> Option<Place> {
+        match byte {
+            b',' => self.end_number()?,
+            b'-' => {
+                let none = self.numbers.len() == BEFORE_WORDS && self.number.is_none();
+                return none.then_some(Place::WordsEnd(entry));
+            }
+            _ => self.read_digit(byte)?,
+        }
+        Some(Place::Words(entry))
     }
-    refused(line)
-}
 
-// The space behind that `-`: 0 is kept in the edition's place.
-fn end_no_edition(mut line: Line, byte: u8, numbers: &mut [u32; NUMBERS_ROOM]) -> Line {
-    line.digits = 1;
-    keep_number(read_space(line, byte, NUMBERS), numbers)
-}
+    // A decimal digit of the present number.
+    fn read_digit(&mut self, byte: u8) -> Option<()> {
+        let digit = char::from(byte).to_digit(10)?;
+        self.number = Some(self.number.unwrap_or_default().with(digit)?);
+        Some(())
+    }
 
-// How many numbers stand before TEXT: MODE to ARGS, or TOKENS alone.
-fn before_text(entry: u8) -> usize {
-    if entry == LEXER { 1 } else { FIRST_WORD }
-}
+    // The present number is whole, and the next one begins.
+    fn end_number(&mut self) -> Option<()> {
+        let number = self.number.take()?;
+        self.keep_number(number.value);
+        Some(())
+    }
 
-// Numbers, each with a space behind it; a file has none in the edition's place.
-fn read_numbers(line: Line, byte: u8, numbers: &mut [u32; NUMBERS_ROOM]) -> Line {
-    if line.numbers == BEFORE_EDITION && line.entry == FILE {
-        return read_no_edition(line, byte);
+    fn keep_number(&mut self, number: u32) {
+        self.fits = self.fits.and(self.numbers.push(number));
     }
-    if byte != b' ' {
-        return read_digit(line, byte);
-    }
-    let kept = keep_number(line, numbers);
-    if kept.numbers == before_text(kept.entry) {
-        return at_place(kept, TEXT);
-    }
-    kept
-}
 
-// `-` stands for nothing, where it is the whole field: none of it has been kept, or is in hand.
-fn read_none(line: Line, begun: bool, next: usize) -> Line {
-    if begun {
-        return refused(line);
+    // A hex digit of the text: the first of a byte is kept in hand, the second makes it whole.
+    fn read_hex(&mut self, byte: u8) -> Option<()> {
+        let digit = char::from(byte).to_digit(16)? as u8;
+        match self.high.take() {
+            None => self.high = Some(digit * 16),
+            Some(high) => self.fits = self.fits.and(self.text.push(high | digit)),
+        }
+        Some(())
     }
-    if line.digits != 0 {
-        return refused(line);
-    }
-    at_place(line, next)
-}
 
-// A byte of the text is whole, and the next one begins.
-fn keep_byte(mut line: Line, byte: u8, text: &mut [u8; TEXT_ROOM]) -> Line {
-    let at = line.bytes;
-    line.digits = 0;
-    line.value = 0;
-    if at < TEXT_ROOM {
-        text[at] = byte;
-        line.bytes = at + 1;
-        return line;
-    }
-    line.large = true;
-    line
-}
-
-// A hex digit of the text: the first of a byte is kept in hand, the second makes it whole.
-fn read_hex(mut line: Line, byte: u8, text: &mut [u8; TEXT_ROOM]) -> Line {
-    if !is_hex(byte) {
-        return refused(line);
-    }
-    let digit = digit_value(byte) as u32;
-    if line.digits != 0 {
-        let high = line.value % 16;
-        return keep_byte(line, (high * 16 + digit) as u8, text);
-    }
-    line.value = digit;
-    line.digits = 1;
-    line
-}
-
-// The text ends behind a whole byte.
-fn end_text(line: Line, next: usize) -> Line {
-    if line.digits != 0 {
-        return refused(line);
-    }
-    if line.bytes == 0 {
-        return refused(line);
-    }
-    at_place(line, next)
-}
-
-// What stands behind TEXT: WORDS, or of a text that is cut nothing.
-fn behind_text(entry: u8) -> usize {
-    if entry == LEXER { REFUSED } else { WORDS }
-}
-
-// Bytes of two hex digits each and a space, or `-`.
-fn read_text(line: Line, byte: u8, text: &mut [u8; TEXT_ROOM]) -> Line {
-    match byte {
-        b' ' => end_text(line, behind_text(line.entry)),
-        b'-' => read_none(line, line.bytes != 0, TEXT_END),
-        _ => read_hex(line, byte, text),
-    }
-}
-
-// Numbers joined by commas, or `-`. The line's end ends the last number.
-fn read_words(line: Line, byte: u8, numbers: &mut [u32; NUMBERS_ROOM]) -> Line {
-    match byte {
-        b',' => keep_number(line, numbers),
-        b'-' => read_none(line, line.numbers != FIRST_WORD, WORDS_END),
-        _ => read_digit(line, byte),
-    }
-}
-
-// The line's end where TEXT is the last field.
-fn end_lexer(line: Line) -> Line {
-    let place = line.place;
-    match place {
-        TEXT => end_text(line, TEXT_END),
-        TEXT_END => line,
-        _ => refused(line),
-    }
-}
-
-// The line's end: of a case, it stands in or behind the last field.
-fn end_line(mut line: Line, numbers: &mut [u32; NUMBERS_ROOM]) -> Line {
-    line.whole = true;
-    if line.entry == LEXER {
-        return end_lexer(line);
-    }
-    let place = line.place;
-    match place {
-        WORDS => keep_number(line, numbers),
-        WORDS_END => line,
-        _ => refused(line),
-    }
-}
-
-// One byte of a line, its end among them.
-pub fn read_byte(
-    line: Line,
-    byte: u8,
-    text: &mut [u8; TEXT_ROOM],
-    numbers: &mut [u32; NUMBERS_ROOM],
-) -> Line {
-    if byte == b'\n' {
-        return end_line(line, numbers);
-    }
-    let place = line.place;
-    match place {
-        ENTRY => read_entry(line, byte),
-        ENTRY_END => read_space(line, byte, NUMBERS),
-        NUMBERS => read_numbers(line, byte, numbers),
-        EDITION_END => end_no_edition(line, byte, numbers),
-        TEXT => read_text(line, byte, text),
-        TEXT_END => read_space(line, byte, behind_text(line.entry)),
-        WORDS => read_words(line, byte, numbers),
-        _ => refused(line),
+    // The text ends behind a whole byte.
+    fn end_text(&self) -> Option<()> {
+        (self.text.len() != 0 && self.high.is_none()).then_some(())
     }
 }

@@ -1,17 +1,46 @@
--- Readers put together: how a refusal and a value go through, how a row of readers may be grouped, and how many tokens a value takes. Assumes nothing.
+-- Readers put together: what an answer tells of the reading, how a refusal and a value go through, how a row of readers may be grouped, and how many tokens a value takes. Assumes nothing.
 use Prim.Native.Nat.{ℕ, suc, ◌+◌, ◌≤◌}
 use native.Mathlib.Nat.{add-zero, zero-add, add_assoc, suc-add}
 use native.Mathlib.Omega.{arith}
 use mathlib.Core.Path.{◌≡◌, refl, sym, ap, ◌∙◌}
 use mathlib.Core.Bool.{Bool, true, false, cond}
 use mathlib.Core.List.{List}
+use Rattle.std.specs.Prelude.{Result, Ok, Err}
 use lib.ListN.{drop}
 use lib.Seq.{drop-drop}
 use lib.Dec.{eqb}
 use Rattle.tokens.specs.Token.{Token, token_at}
-use Rattle.grammar.specs.Result.{Why, plain, Res, got, bad, refuse, on, stepped, with_one_more, look, expect, counted, joined, seq}
+use Rattle.grammar.specs.Result.{Why, plain, number, beyond, Res, got, bad, refuse, on, stepped, with_one_more, look, expect, counted, joined, seq}
 use Rattle.grammar.specs.Written.{RefusedRead}
 use Rattle.grammar.proofs.AtPlace.{seq_got, seq_bad}
+
+-- ---- an answer
+
+-- an answer that is made of what was read, and else the refusal's number and cursor
+pub record Answering {A B : Type 0} (answer : Res A → Result B (ℕ × ℕ)) (yes : A → ℕ → B) : Type 0 where
+  pub says : (a : A) (k : ℕ) → answer (got a k) ≡ Ok (yes a k)
+  pub tells : (y : Why) (w : ℕ) → answer (bad y w) ≡ Err (number y, w + beyond y)
+
+-- what an Ok tells of the reading
+pub record Told {A B : Type 0} (yes : A → ℕ → B) (x : Res A) (b : B) : Type 0 where
+  pub value : A
+  pub size : ℕ
+  pub is : x ≡ got value size
+  pub same : b ≡ yes value size
+
+module _ {A B : Type 0} {answer : Res A → Result B (ℕ × ℕ)} {yes : A → ℕ → B} (by : Answering answer yes) where
+  pub value_told : (x : Res A) {b : B} → Ok b ≡ answer x → Told yes x b
+  value_told (got a k) e = record { value = a; size = k; is = refl; same = cc (e, by.says a k) }
+  value_told (bad y w) e = cc (e, by.tells y w)
+
+  -- and what an Err does
+  pub refusal_told : (x : Res A) {f : ℕ × ℕ} → Err f ≡ answer x → RefusedRead x f.0 f.1
+  refusal_told (got a k) e = cc (e, by.says a k)
+  refusal_told (bad y w) e =
+      record { why = y; place = w; is = refl; numbered = cc (e, by.tells y w); cursor = cc (e, by.tells y w) }
+
+pub same_refusal : {A B : Type 0} {x : Res A} {f : ℕ × ℕ} (s : RefusedRead x f.0 f.1) → ◌≡◌ {A = Result B (ℕ × ℕ)} (Err f) (Err (number s.why, s.place + beyond s.why))
+same_refusal {f = f} s = ap (λ n. Err (n, f.1)) s.numbered ∙ ap (λ w. Err (number s.why, w)) s.cursor
 
 -- ---- a refusal
 
@@ -20,9 +49,6 @@ stops_here {c = c} {w = w} e h = record { why = plain c; place = w; is = e; numb
 
 pub as_stops : {A : Type 0} {x y : Res A} {c q : ℕ} → x ≡ y → RefusedRead y c q → RefusedRead x c q
 as_stops e s = record { why = s.why; place = s.place; is = e ∙ s.is; numbered = s.numbered; cursor = s.cursor }
-
-pub more_stops : {A : Type 0} {x : Res A} {c q : ℕ} → RefusedRead x c q → RefusedRead (with_one_more x) c q
-more_stops s = record { why = s.why; place = s.place; is = ap with_one_more s.is; numbered = s.numbered; cursor = s.cursor }
 
 pub counted_stops : {A : Type 0} {x : Res A} {c q : ℕ} (n : ℕ) → RefusedRead x c q → RefusedRead (counted n x) c q
 counted_stops n s = record { why = s.why; place = s.place; is = ap (counted n) s.is; numbered = s.numbered; cursor = s.cursor }

@@ -1,8 +1,13 @@
--- Inner: a definition from the place behind its name on.
-use Rattle.std.specs.Prelude.{ℕ, List, drop}
+-- Inner: a definition by the token that it begins with, and from the place behind its name on.
+use Rattle.std.specs.Prelude.{ℕ, ◌≡◌, List, drop, Option, Some, None}
 use Rattle.tokens.specs.Token.{Token, token_at}
 use Rattle.grammar.specs.Result.{Res, got, seq}
 use Rattle.grammar.specs.FileReading.{Form, Definition}
+
+-- which of some kinds of definitions a token of kind k begins, if any, by the kind of each one's token
+abbrev pub Opening : {K : Type 0} → (K → ℕ) → ℕ → Option K → Type 0
+Opening token k (Some kind) = k ≡ token kind
+Opening {K} token k None = (kind : K) → k ≡ token kind → ⊥
 
 -- the definition that begins at `first`, has its name at `name`, and is of this form
 abbrev pub formed : ℕ → ℕ → List Token → Form → ℕ → List Token → Res Definition

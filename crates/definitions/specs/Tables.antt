@@ -1,19 +1,20 @@
 -- Inner: how the parts of a table are read, and what the code's answers for them say.
-use Rattle.std.specs.Prelude.{ℕ, suc, ◌+◌, ◌*◌, ◌/◌, ◌≤◌, ◌<◌, ◌≡◌, cond, List, leb, eqb, length}
-use Rattle.tokens.specs.Number.{InvalidTableBodyToken, statement_width, most_bytes, most_tokens}
+use Rattle.std.specs.Prelude.{ℕ, suc, ◌+◌, ◌*◌, ◌/◌, ◌≤◌, ◌<◌, ◌≡◌, cond, List, eqb, length, Result, Ok, Err}
+use Rattle.tokens.specs.Number.{InvalidTableBodyToken, statement_width, most_bytes}
 use Rattle.tokens.specs.Token.{Token}
 use Rattle.tokens.specs.Place.{kind_at}
-use Rattle.tokens.specs.Kind.{JumpTable, JumpTablePacked, OpenParen, CloseParen, CloseBrace, Assign}
+use Rattle.tokens.specs.Kind.{JumpTable, JumpTablePacked, CodeTable, OpenParen, CloseParen, CloseBrace, Assign}
 use Rattle.grammar.specs.Result.{plain, number, beyond, Res, got, bad, expect, seq}
 use Rattle.grammar.specs.FileReading.{TableSort, jump_table, packed_table, code_table, TableEntry, digit_total}
 use Rattle.grammar.specs.FileReader.{table_entries}
-use Rattle.grammar.specs.FileRecords.{table_number, entry_records}
+use Rattle.grammar.specs.FileRecords.{entry_records}
 use Rattle.grammar.specs.Written.{Written}
-use Rattle.definitions.specs.declared.record.Definition as code
+use Rattle.lists.specs.declared.before.Before.{Before}
+use Rattle.definitions.specs.Answers.{table_kind}
+use Rattle.definitions.specs.declared.record.Found.{Found}
 use Rattle.definitions.specs.declared.table.TableKind.{TableKind}
 use Rattle.definitions.specs.declared.table.TableKind.TheVariants.{Jump, Packed, Code}
 use Rattle.definitions.specs.declared.table.Entries.{Entries}
-use Rattle.definitions.specs.declared.table.Entries.TheVariants as entries
 
 -- ---- kinds of tables
 
@@ -22,9 +23,11 @@ table_sort Jump = jump_table
 table_sort Packed = packed_table
 table_sort Code = code_table
 
--- by the kind of the token that the table begins with
-abbrev pub table_kind : ℕ → TableKind
-table_kind k = cond (leb k JumpTable) Jump (cond (leb k JumpTablePacked) Packed Code)
+-- the kind of the token that the table begins with
+abbrev pub table_token : TableKind → ℕ
+table_token Jump = JumpTable
+table_token Packed = JumpTablePacked
+table_token Code = CodeTable
 
 -- the size of a table with so many entries and digits
 abbrev pub size_with : TableSort → ℕ → ℕ → ℕ
@@ -53,46 +56,33 @@ pub record Past (p size place r : ℕ) : Type 0 where
 unfoldable pub entries_from : TableSort → ℕ → List Token → Res (List TableEntry)
 entries_from sort = seq (table_entries sort) (λ es. expect CloseBrace (plain InvalidTableBodyToken) (λ c q ts. got es 0))
 
-abbrev pub entries_answer : ℕ → Res (List TableEntry) → Entries
-entries_answer p (got es k) = entries.Done (length es) (digit_total es) (p + k)
-entries_answer p (bad y w) = entries.Refused (number y) (w + beyond y)
+abbrev pub entries_answer : ℕ → Res (List TableEntry) → Result Entries (ℕ × ℕ)
+entries_answer p (got es k) = Ok (record { count = length es; digits = digit_total es; end = p + k })
+entries_answer p (bad y w) = Err (number y, w + beyond y)
 
 -- the tokens of a well-formed list don't overlap, so the digits are no more than a text has bytes
-abbrev pub EntriesWithin : ℕ → ℕ → Entries → Type 0
-EntriesWithin p size (entries.Done n digits e) = (p < e) × (e ≤ size) × (n + p < e) × (digits ≤ most_bytes)
-EntriesWithin p size (entries.Refused c q) = Unit {0}
+abbrev pub EntriesWithin : ℕ → ℕ → Result Entries (ℕ × ℕ) → Type 0
+EntriesWithin p size (Ok e) = (p < e.end) × (e.end ≤ size) × (e.count + p < e.end) × (e.digits ≤ most_bytes)
+EntriesWithin p size (Err f) = Unit {0}
 
-pub record EntriesRead (sort : TableSort) (p i a size : ℕ) (read : Res (List TableEntry)) (st : List ℕ) (r : Entries) (st' : List ℕ) : Type 0 where
+pub record EntriesRead (sort : TableSort) (p : ℕ) (before : Before) (size : ℕ) (read : Res (List TableEntry)) (st : List ℕ) (r : Result Entries (ℕ × ℕ)) (st' : List ℕ) : Type 0 where
   pub is : r ≡ entries_answer p read
-  pub table : Written statement_width (entry_records sort i a) read 0 st st'
+  pub table : Written statement_width (entry_records sort before.statements before.arguments) read 0 st st'
   pub within : EntriesWithin p size r
 
 -- ---- the record
 
--- the words fit
-pub record Sized (first name n digits e i a : ℕ) : Type 0 where
-  pub begun : first ≤ most_tokens
-  pub placed : name ≤ most_tokens
-  pub entries : n ≤ most_tokens
-  pub few : digits ≤ most_bytes
-  pub at : e ≤ most_tokens
-  pub statements_before : i ≤ most_tokens
-  pub arguments_before : a ≤ most_tokens
-
--- its definition
-abbrev pub table_of : TableSort → ℕ → ℕ → ℕ → ℕ → ℕ → ℕ → ℕ → code.Definition
-table_of sort first name n digits e i a =
+-- a table whose name is the token at n
+abbrev pub table_found : TableSort → ℕ → ℕ → Entries → Found
+table_found sort first n e =
     record {
-      kind = table_number sort;
-      name = name;
+      kind = table_kind sort;
       first = first;
-      end = e;
-      argument = a;
-      arguments = 0;
-      output = a;
+      name = n;
+      end = e.end;
+      inputs = 0;
       outputs = 0;
-      statement = i;
-      statements = n;
-      a = size_with sort n digits;
+      statements = e.count;
+      a = size_with sort e.count e.digits;
       b = 0;
     }

@@ -1,138 +1,113 @@
 // Constants.
-ghost use Rattle.std.specs.Prelude.{ℕ, ◌≡◌, List, length};
+ghost use Rattle.std.specs.Prelude.{ℕ, List};
 ghost use Rattle.tokens.specs.Token.{view};
 ghost use Rattle.tokens.specs.Place.{Place, tokens_from};
 ghost use Rattle.grammar.specs.FileReader.{parse_constant, constant_rest};
 ghost use Rattle.definitions.specs.Answers.{Reading, DefParsed};
-ghost use Rattle.definitions.specs.Constant.{place_of, value_type, ValueRead, ConstantRead, ConstantFits, constant_of};
+ghost use Rattle.definitions.specs.Constant.{ValueRead};
+ghost use Rattle.tokens.specs.Source.{count};
 
-use crate::head::{Head, read_head};
-use crate::record::{DefRead, Definition};
-use tokens::{kind, kind_at, number};
+use crate::head::read_head;
+use crate::record::{DefRead, DefinitionKind, Found};
+use lists::Before;
+use tokens::{Refusal, Source, Wrong, kind, number};
 
 // A constant's value: a literal's place, or that of the free storage pointer.
+// The place stands in both arms, and the value in `ConstantDefinition`: document 01 asks for this form (docs/DECISIONS.md, "Forms that document 01 names").
 #[derive(Clone, Copy)]
-pub enum ConstVal {
+enum ConstVal {
     Literal(usize),
     FreeStoragePointer(usize),
 }
 
+impl ConstVal {
+    ghost use Rattle.std.specs.Prelude.{◌≡◌};
+    ghost use Rattle.definitions.specs.Constant.{place_of, value_type};
+
+    // What A says of it: which it is.
+    fn number(self) -> u32
+        ensures { result ≡ value_type self }
+    {
+        match self {
+            ConstVal::Literal(_) => number::VALUE_LITERAL,
+            ConstVal::FreeStoragePointer(_) => number::VALUE_POINTER,
+        }
+    }
+
+    // And B: its place.
+    fn place(self) -> usize
+        ensures { result ≡ place_of self }
+    {
+        match self {
+            ConstVal::Literal(at) | ConstVal::FreeStoragePointer(at) => at,
+        }
+    }
+}
+
 // A constant as it is read, before its record is written.
-#[derive(Drop)]
-pub struct ConstantDefinition {
-    pub first: usize,
-    pub end: usize,
-    pub name: usize,
-    pub value: ConstVal,
+#[derive(Clone, Copy)]
+struct ConstantDefinition {
+    first: usize,
+    name: usize,
+    end: usize,
+    value: ConstVal,
 }
 
-// The value behind its `=`; or a refusal's number and cursor.
-#[derive(Drop)]
-pub enum ValRead {
-    Value(ConstVal),
-    Refused(u32, usize),
-}
+impl ConstantDefinition {
+    ghost use Rattle.std.specs.Prelude.{◌≡◌, ◌≤◌};
+    ghost use Rattle.tokens.specs.Number.{most_tokens};
+    ghost use Rattle.definitions.specs.Constant.{place_of, constant_found};
 
-// The constant; or a refusal's number and cursor.
-#[derive(Drop)]
-pub enum ConstRead {
-    Constant(ConstantDefinition),
-    Refused(u32, usize),
+    // What is found of it.
+    fn found(self) -> Found
+        requires { place_of self.value ≤ most_tokens }
+        ensures { result ≡ constant_found self }
+    {
+        Found {
+            a: self.value.number(),
+            b: self.value.place() as u32,
+            ..Found::bare(DefinitionKind::Constant, self.first, self.name, self.end)
+        }
+    }
 }
 
 // `=` and a value, whatever the text: a constant behind its name.
-fn value_behind(tokens: &[u32], kept: &[u32], p: usize) -> ValRead
-    requires { Place tokens.now kept.now p }
-    ensures { (text : List ℕ) → ValueRead p (length kept.now) (constant_rest p (tokens_from text tokens.now kept.now p)) result }
+#[tactic(auto, using(crate::proofs::DefinitionLaws::value_unassigned, crate::proofs::DefinitionLaws::value_pointer, crate::proofs::DefinitionLaws::value_literal, crate::proofs::DefinitionLaws::value_wrong))]
+fn value_behind(source: &Source, p: usize) -> Result<ConstVal, Refusal>
+    requires { Place source.now.tokens.now source.now.kept.now p }
+    ensures { (text : List ℕ) → ValueRead p (count source.now) (constant_rest p (tokens_from text source.now.tokens.now source.now.kept.now p)) result }
 {
-    if kind_at(tokens, kept, p) != kind::ASSIGN {
-        return ValRead::Refused(number::UNEXPECTED_TYPE, p);
+    if source.kind_at(p) != kind::ASSIGN {
+        return Err(Refusal::new(Wrong::UnexpectedType, p));
     }
-    match kind_at(tokens, kept, p + 1) {
-        kind::FREE_STORAGE_POINTER => ValRead::Value(ConstVal::FreeStoragePointer(p + 1)),
-        kind::LITERAL => ValRead::Value(ConstVal::Literal(p + 1)),
-        _ => ValRead::Refused(number::INVALID_CONSTANT_VALUE, p + 1),
-    }
-}
-
-// A constant, from the token Constant on.
-fn read_constant(tokens: &[u32], kept: &[u32], first: usize, p: usize) -> ConstRead
-    requires { Place tokens.now kept.now p }
-    ensures { (text : List ℕ) → ConstantRead (view text tokens.now kept.now) first p (length kept.now)
-        (parse_constant first p (tokens_from text tokens.now kept.now p)) result }
-{
-    match read_head(tokens, kept, kind::CONSTANT, p) {
-        Head::Wrong(q) => ConstRead::Refused(number::UNEXPECTED_TYPE, q),
-        Head::Named => match value_behind(tokens, kept, p + 2) {
-            ValRead::Value(v) => ConstRead::Constant(ConstantDefinition {
-                first: first,
-                end: p + 4,
-                name: p + 1,
-                value: v,
-            }),
-            ValRead::Refused(c, q) => ConstRead::Refused(c, q),
-        },
-    }
-}
-
-// What A and B say of the value: which it is, and its place.
-fn value_type(v: ConstVal) -> u32
-    ensures { result ≡ value_type v }
-{
-    match v {
-        ConstVal::Literal(_) => number::VALUE_LITERAL,
-        ConstVal::FreeStoragePointer(_) => number::VALUE_POINTER,
-    }
-}
-
-fn value_place(v: ConstVal) -> usize
-    ensures { result ≡ place_of v }
-{
-    match v {
-        ConstVal::Literal(at) => at,
-        ConstVal::FreeStoragePointer(at) => at,
-    }
-}
-
-// Its definition, behind i statement and a argument records.
-fn constant_definition(d: ConstantDefinition, i: usize, a: usize) -> Definition
-    requires { ConstantFits d i a }
-    ensures { result ≡ constant_of i a d }
-{
-    let v = d.value;
-    let place = value_place(v) as u32;
-    let before = a as u32;
-    Definition {
-        kind: number::DEFINITION_CONSTANT,
-        name: d.name as u32,
-        first: d.first as u32,
-        end: d.end as u32,
-        argument: before,
-        arguments: 0,
-        output: before,
-        outputs: 0,
-        statement: i as u32,
-        statements: 0,
-        a: value_type(v),
-        b: place,
+    match source.kind_at(p + 1) {
+        kind::FREE_STORAGE_POINTER => Ok(ConstVal::FreeStoragePointer(p + 1)),
+        kind::LITERAL => Ok(ConstVal::Literal(p + 1)),
+        _ => Err(Refusal::new(Wrong::InvalidConstantValue, p + 1)),
     }
 }
 
 // The Rust's `parse_constant`. It has no statements and no arguments: whatever is lent for them stays.
 pub fn parse_constant(
-    tokens: &[u32],
-    kept: &[u32],
+    source: &Source,
     first: usize,
     p: usize,
-    i: usize,
-    a: usize,
-) -> DefRead
-    requires { Reading tokens.now kept.now first p i a }
-    ensures { (text st ar : List ℕ) → DefParsed 7 (view text tokens.now kept.now) p i a (length kept.now)
-        (parse_constant first p (tokens_from text tokens.now kept.now p)) st ar result st ar }
+    before: Before,
+) -> Result<DefRead, Refusal>
+    requires { Reading source.now.tokens.now source.now.kept.now first p before }
+    ensures { (text st ar : List ℕ) → DefParsed 7 (view text source.now.tokens.now source.now.kept.now) p before (count source.now)
+        (parse_constant first p (tokens_from text source.now.tokens.now source.now.kept.now p)) st ar result st ar }
 {
-    match read_constant(tokens, kept, first, p) {
-        ConstRead::Constant(d) => DefRead::Done(constant_definition(d, i, a), 0),
-        ConstRead::Refused(c, q) => DefRead::Refused(c, q),
-    }
+    read_head(source, kind::CONSTANT, p)?;
+    let value = value_behind(source, p + 2)?;
+    let constant = ConstantDefinition {
+        first,
+        name: p + 1,
+        end: p + 4,
+        value,
+    };
+    Ok(DefRead {
+        definition: constant.found().definition(before),
+        arguments: 0,
+    })
 }

@@ -1,28 +1,23 @@
 // How a definition begins: its keyword and its name.
-ghost use Rattle.std.specs.Prelude.{ℕ, List, length};
+ghost use Rattle.std.specs.Prelude.{ℕ, List};
 ghost use Rattle.tokens.specs.Token.{view};
 ghost use Rattle.tokens.specs.Place.{Place};
 ghost use Rattle.definitions.specs.Pieces.{Headed};
+ghost use Rattle.tokens.specs.Source.{count};
 
-use tokens::{kind, kind_at};
+use tokens::{Refusal, Source, Wrong, kind};
 
-// Both stand there; or the first wrong place.
-#[derive(Drop)]
-pub enum Head {
-    Named,
-    Wrong(usize),
-}
-
-// A token of this kind at p, and an Ident behind it, whatever the text.
-pub fn read_head(tokens: &[u32], kept: &[u32], kind: u32, p: usize) -> Head
-    requires { Place tokens.now kept.now p }
-    ensures { (text : List ℕ) → Headed (view text tokens.now kept.now) kind p (length kept.now) result }
+// A token of this kind at p, and an Ident behind it, whatever the text. The module `kind` stands only before `::`, so the parameter may have its name.
+#[tactic(auto, using(crate::proofs::DefinitionLaws::head_unkeyed, crate::proofs::DefinitionLaws::head_unnamed))]
+pub fn read_head(source: &Source, kind: u32, p: usize) -> Result<(), Refusal>
+    requires { Place source.now.tokens.now source.now.kept.now p }
+    ensures { (text : List ℕ) → Headed (view text source.now.tokens.now source.now.kept.now) kind p (count source.now) result }
 {
-    if kind_at(tokens, kept, p) != kind {
-        return Head::Wrong(p);
+    if source.kind_at(p) != kind {
+        return Err(Refusal::new(Wrong::UnexpectedType, p));
     }
-    if kind_at(tokens, kept, p + 1) != kind::IDENT {
-        return Head::Wrong(p + 1);
+    if source.kind_at(p + 1) != kind::IDENT {
+        return Err(Refusal::new(Wrong::UnexpectedType, p + 1));
     }
-    Head::Named
+    Ok(())
 }

@@ -1,255 +1,214 @@
 // Macros, fns and tests: the Rust's `parse_macro`.
 //
-// The declared arguments are written first, and the body's arguments behind them. i and a are the numbers of statement and argument records before the
-// lent tables.
-ghost use Rattle.std.specs.Prelude.{ℕ, ◌≤◌, ◌<◌, ◌≡◌, List, length};
-ghost use Rattle.tokens.specs.Token.{view};
+// The declared arguments are written first, and the body's arguments behind them.
+ghost use Rattle.std.specs.Prelude.{ℕ, ◌≤◌, ◌<◌, List};
 ghost use Rattle.grammar.specs.Rules.{asks};
 ghost use Rattle.grammar.specs.Reader.{name_argument};
 ghost use Rattle.grammar.specs.Typed.{single_number};
-ghost use Rattle.grammar.specs.FileReader.{optional, parse_args, macro_rest, parse_macro};
+ghost use Rattle.grammar.specs.FileReader.{optional, parse_args, parse_macro};
 ghost use Rattle.tokens.specs.Place.{Place, tokens_from};
 ghost use Rattle.lists.specs.Answers.{ListRead};
 ghost use Rattle.definitions.specs.Answers.{Reading, DefParsed};
-ghost use Rattle.definitions.specs.Macros.{NumberRead, numbers_from, NumbersRead, head_from, Declared, macro_of, tail_from, MacroKind, TailParsed, macro_sort};
-ghost use Rattle.definitions.specs.Behind.{behind_name};
+ghost use Rattle.definitions.specs.Macros.{NumberRead, numbers_from, NumbersRead, head_from, tail_from, TailParsed};
+ghost use Rattle.tokens.specs.Source.{all, all_from, count};
 
-use crate::record::{DefRead, Definition};
-use lists::{ArgList, Single, Sort, parse_args, parse_single_arg};
-use statements::{Items, Progress, is_long, named_once, named_once_long, parse_body};
-use tokens::{kind, kind_at, number};
+use crate::record::{DefRead, DefinitionKind, Found};
+use lists::{ArgList, Before, Single, Sort, parse_args, parse_single_arg};
+use statements::{Progress, is_long, named_once, named_once_long, parse_body};
+use tokens::{Refusal, Source, Wrong, kind};
 
-// Takes, returns and the place behind them; or a refusal's number and cursor.
-#[derive(Drop)]
-pub enum Numbers {
-    Done(u32, u32, usize),
-    Refused(u32, usize),
+// The three kinds of a macro.
+#[derive(Clone, Copy)]
+enum MacroKind {
+    Macro,
+    Fn,
+    Test,
 }
 
-// Takes or Returns, as `kind` says, with its number; 0 where it is missing.
-fn takes_or_returns(tokens: &[u32], kept: &[u32], kind: u32, p: usize) -> Single
-    requires place { Place tokens.now kept.now p }
-    requires kind_nonzero { 0 < kind }
-    ensures { (text : List ℕ) → NumberRead p (length kept.now)
-        (optional kind single_number 0 p (tokens_from text tokens.now kept.now p)) result }
-{
-    if kind_at(tokens, kept, p) != kind {
-        return Single::Number(0, p);
+impl MacroKind {
+    ghost use Rattle.definitions.specs.Behind.{Opening};
+    ghost use Rattle.definitions.specs.Macros.{macro_token};
+
+    // The kind of the macro that begins with a token of this kind. No TryFrom: it would need an error type that nobody reads.
+    fn of(kind: u32) -> Option<MacroKind>
+        ensures { Opening macro_token kind result }
+    {
+        match kind {
+            kind::MACRO => Some(MacroKind::Macro),
+            kind::FN => Some(MacroKind::Fn),
+            kind::TEST => Some(MacroKind::Test),
+            _ => None,
+        }
     }
-    parse_single_arg(tokens, kept, p + 1)
+}
+
+impl From<MacroKind> for DefinitionKind {
+    ghost use Rattle.std.specs.Prelude.{◌≡◌};
+    ghost use Rattle.definitions.specs.Answers.{macro_kind};
+    ghost use Rattle.definitions.specs.Macros.{macro_sort};
+
+    ghost from_gives = { λ from kind. kind ≡ macro_kind (macro_sort from) };
+
+    fn from(from: MacroKind) -> DefinitionKind {
+        match from {
+            MacroKind::Macro => DefinitionKind::Macro,
+            MacroKind::Fn => DefinitionKind::Fn,
+            MacroKind::Test => DefinitionKind::Test,
+        }
+    }
+}
+
+// Takes, returns and the place behind them.
+#[derive(Clone, Copy)]
+struct Numbers {
+    takes: u32,
+    returns: u32,
+    end: usize,
+}
+
+// The same, and the progress behind the body. `Numbers` is no field of it: its `end` would be a place that nobody asks for behind the body.
+#[derive(Clone, Copy)]
+struct Tail {
+    takes: u32,
+    returns: u32,
+    body: Progress,
+}
+
+// Takes or Returns, as `kind` says, with its number; 0 where it is missing, as docs/RULES.md has it.
+#[tactic(auto, using(crate::proofs::MacroLaws::number_absent))]
+fn takes_or_returns(source: &Source, kind: u32, p: usize) -> Result<Single, Refusal>
+    requires place { Place source.now.tokens.now source.now.kept.now p }
+    requires kind_nonzero { 0 < kind }
+    ensures { (text : List ℕ) → NumberRead p (count source.now)
+        (optional kind single_number 0 p (tokens_from text source.now.tokens.now source.now.kept.now p)) result }
+{
+    if source.kind_at(p) != kind {
+        return Ok(Single { number: 0, end: p });
+    }
+    parse_single_arg(source, p + 1)
 }
 
 // Takes, then Returns, whatever the text.
-fn macro_numbers(tokens: &[u32], kept: &[u32], p: usize) -> Numbers
-    requires { Place tokens.now kept.now p }
-    ensures { (text : List ℕ) → NumbersRead p (length kept.now)
-        (numbers_from p (tokens_from text tokens.now kept.now p)) result }
+fn macro_numbers(source: &Source, p: usize) -> Result<Numbers, Refusal>
+    requires { Place source.now.tokens.now source.now.kept.now p }
+    ensures { (text : List ℕ) → NumbersRead p (count source.now)
+        (numbers_from p (tokens_from text source.now.tokens.now source.now.kept.now p)) result }
 {
-    match takes_or_returns(tokens, kept, kind::TAKES, p) {
-        Single::Refused(c, q) => Numbers::Refused(c, q),
-        Single::Number(takes, q) => match takes_or_returns(tokens, kept, kind::RETURNS, q) {
-            Single::Refused(d, w) => Numbers::Refused(d, w),
-            Single::Number(returns, e) => Numbers::Done(takes, returns, e),
-        },
-    }
+    let takes = takes_or_returns(source, kind::TAKES, p)?;
+    let returns = takes_or_returns(source, kind::RETURNS, takes.end)?;
+    Ok(Numbers {
+        takes: takes.number,
+        returns: returns.number,
+        end: returns.end,
+    })
 }
 
 // The list of declared arguments behind the name. Most macros declare none: `( )` is told here from its two tokens. By the list's reader alone a file of many
 // macros takes 6 in 100 longer, since what that reader is lent costs more than the tokens.
-fn declared_args(
-    text: &[u8],
-    tokens: &[u32],
-    kept: &[u32],
-    p: usize,
-    arguments: &mut [u32],
-) -> ArgList
-    requires { Place tokens.now kept.now p }
-    ensures { ListRead 0 p (length kept.now)
-        (parse_args name_argument p (tokens_from text.now tokens.now kept.now p))
+fn declared_args(source: &Source, p: usize, arguments: &mut [u32]) -> Result<ArgList, Refusal>
+    requires { Place source.now.tokens.now source.now.kept.now p }
+    ensures { ListRead 0 p (count source.now)
+        (parse_args name_argument p (all_from source.now p))
         arguments.old result arguments.new }
 {
-    if kind_at(tokens, kept, p) == kind::OPEN_PAREN {
-        if kind_at(tokens, kept, p + 1) == kind::CLOSE_PAREN {
-            return ArgList::Done(0, p + 2);
-        }
+    if source.kind_at(p) == kind::OPEN_PAREN && source.kind_at(p + 1) == kind::CLOSE_PAREN {
+        return Ok(ArgList {
+            arguments: 0,
+            end: p + 2,
+        });
     }
-    parse_args(text, tokens, kept, Sort::Macro, p, arguments, 0)
+    parse_args(source, Sort::Macro, p, arguments, 0)
 }
 
 // The list of declared arguments behind the name, and `=`.
-fn macro_head(text: &[u8], tokens: &[u32], kept: &[u32], p: usize, arguments: &mut [u32]) -> ArgList
-    requires { Place tokens.now kept.now p }
-    ensures { ListRead 0 p (length kept.now)
-        (head_from p (tokens_from text.now tokens.now kept.now p))
+fn macro_head(source: &Source, p: usize, arguments: &mut [u32]) -> Result<ArgList, Refusal>
+    requires { Place source.now.tokens.now source.now.kept.now p }
+    ensures { ListRead 0 p (count source.now)
+        (head_from p (all_from source.now p))
         arguments.old result arguments.new }
 {
-    match declared_args(text, tokens, kept, p, arguments) {
-        ArgList::Refused(c, q) => ArgList::Refused(c, q),
-        ArgList::Done(n, e) => {
-            if kind_at(tokens, kept, e) != kind::ASSIGN {
-                return ArgList::Refused(number::UNEXPECTED_TYPE, e);
-            }
-            ArgList::Done(n, e + 1)
-        }
+    let list = declared_args(source, p, arguments)?;
+    if source.kind_at(list.end) != kind::ASSIGN {
+        return Err(Refusal::new(Wrong::UnexpectedType, list.end));
     }
-}
-
-// A macro of n declared arguments behind i statement and a argument records, whose body ends with the progress t.
-fn macro_definition(
-    kind: u32,
-    first: usize,
-    name: usize,
-    n: usize,
-    takes: u32,
-    returns: u32,
-    t: Progress,
-    i: usize,
-    a: usize,
-) -> Definition
-    requires { Declared first name n t i a }
-    ensures { result ≡ macro_of kind first name n takes returns t.at t.statements i a }
-{
-    Definition {
-        kind: kind,
-        name: name as u32,
-        first: first as u32,
-        end: t.at as u32,
-        argument: a as u32,
-        arguments: n as u32,
-        output: (a + n) as u32,
-        outputs: 0,
-        statement: i as u32,
-        statements: t.statements as u32,
-        a: takes,
-        b: returns,
-    }
-}
-
-// Takes, returns and the progress behind the body; or a refusal's number and cursor.
-#[derive(Drop)]
-pub enum Tail {
-    Done(u32, u32, Progress),
-    Refused(u32, usize),
+    Ok(ArgList {
+        arguments: list.arguments,
+        end: list.end + 1,
+    })
 }
 
 // From the place q behind `=` on, with n declared arguments in the lent table.
+// `read` is set in each branch, not by `let read = if ..`: the edit `names_across_bodies` changes the line of `named_once` as it stands.
 fn macro_tail(
-    text: &[u8],
-    tokens: &[u32],
-    kept: &[u32],
+    source: &Source,
     strict: bool,
     n: usize,
     q: usize,
     statements: &mut [u32],
     arguments: &mut [u32],
-    i: usize,
-    a: usize,
-) -> Tail
-    requires reading { Reading tokens.now kept.now q q i a }
+    before: Before,
+) -> Result<Tail, Refusal>
+    requires reading { Reading source.now.tokens.now source.now.kept.now q q before }
     requires n_le_q { n ≤ q }
-    ensures { TailParsed n q i a (length kept.now)
-        (tail_from (asks strict) q (tokens_from text.now tokens.now kept.now q))
+    ensures { TailParsed n q before (count source.now)
+        (tail_from (asks strict) q (all_from source.now q))
         statements.old arguments.old result statements.new arguments.new }
 {
-    match macro_numbers(tokens, kept, q) {
-        Numbers::Refused(c, w) => Tail::Refused(c, w),
-        Numbers::Done(takes, returns, e) => {
-            let s = Progress {
-                at: e,
-                statements: 0,
-                arguments: n,
-            };
-            let mut read = parse_body(text, tokens, kept, strict, s, statements, arguments, i, a);
-            if strict {
-                if is_long(e, read) {
-                    read = named_once_long(text, tokens, kept, e, read);
-                } else {
-                    read = named_once(text, tokens, kept, e, read);
-                }
-            }
-            match read {
-                Items::Refused(d, x) => Tail::Refused(d, x),
-                Items::Done(t) => Tail::Done(takes, returns, t),
-            }
+    let numbers = macro_numbers(source, q)?;
+    let e = numbers.end;
+    let s = Progress {
+        at: e,
+        statements: 0,
+        arguments: n,
+    };
+    let mut read = parse_body(source, strict, s, statements, arguments, before);
+    if strict {
+        if is_long(e, &read) {
+            read = named_once_long(source, e, read);
+        } else {
+            read = named_once(source, e, read);
         }
     }
+    Ok(Tail {
+        takes: numbers.takes,
+        returns: numbers.returns,
+        body: read?,
+    })
 }
 
-// From the place p behind the name on.
-fn macro_rest(
-    text: &[u8],
-    tokens: &[u32],
-    kept: &[u32],
-    strict: bool,
-    kind: u32,
-    first: usize,
-    name: usize,
-    p: usize,
-    statements: &mut [u32],
-    arguments: &mut [u32],
-    i: usize,
-    a: usize,
-) -> DefRead
-    requires reading { Reading tokens.now kept.now first p i a }
-    requires name_le_p { (name ≤ p) × MacroKind kind }
-    ensures { DefParsed 5 (view text.now tokens.now kept.now) p i a (length kept.now)
-        (behind_name first name (view text.now tokens.now kept.now) (macro_rest (asks strict) (macro_sort kind)) p)
-        statements.old arguments.old result statements.new arguments.new }
-{
-    match macro_head(text, tokens, kept, p, arguments) {
-        ArgList::Refused(c, q) => DefRead::Refused(c, q),
-        ArgList::Done(n, q) => match macro_tail(
-            text, tokens, kept, strict, n, q, statements, arguments, i, a,
-        ) {
-            Tail::Refused(d, w) => DefRead::Refused(d, w),
-            Tail::Done(takes, returns, t) => DefRead::Done(
-                macro_definition(kind, first, name, n, takes, returns, t, i, a),
-                t.arguments,
-            ),
-        },
-    }
-}
-
-// From the token Macro, Fn or Test on; `first` is the place of Define. A macro's record has its token's number as its kind.
+// From the token Macro, Fn or Test on; `first` is the place of Define.
 pub fn parse_macro(
-    text: &[u8],
-    tokens: &[u32],
-    kept: &[u32],
+    source: &Source,
     strict: bool,
     first: usize,
     p: usize,
     statements: &mut [u32],
     arguments: &mut [u32],
-    i: usize,
-    a: usize,
-) -> DefRead
-    requires { Reading tokens.now kept.now first p i a }
-    ensures { DefParsed 7 (view text.now tokens.now kept.now) p i a (length kept.now)
-        (parse_macro (asks strict) first p (tokens_from text.now tokens.now kept.now p))
+    before: Before,
+) -> Result<DefRead, Refusal>
+    requires { Reading source.now.tokens.now source.now.kept.now first p before }
+    ensures { DefParsed 7 (all source.now) p before (count source.now)
+        (parse_macro (asks strict) first p (all_from source.now p))
         statements.old arguments.old result statements.new arguments.new }
 {
-    let kind = kind_at(tokens, kept, p);
-    if kind < kind::MACRO {
-        return DefRead::Refused(number::UNEXPECTED_TYPE, p);
+    let Some(kind) = MacroKind::of(source.kind_at(p)) else {
+        return Err(Refusal::new(Wrong::UnexpectedType, p));
+    };
+    if source.kind_at(p + 1) != kind::IDENT {
+        return Err(Refusal::new(Wrong::UnexpectedType, p + 1));
     }
-    if kind::TEST < kind {
-        return DefRead::Refused(number::UNEXPECTED_TYPE, p);
-    }
-    if kind_at(tokens, kept, p + 1) != kind::IDENT {
-        return DefRead::Refused(number::UNEXPECTED_TYPE, p + 1);
-    }
-    macro_rest(
-        text,
-        tokens,
-        kept,
-        strict,
-        kind,
-        first,
-        p + 1,
-        p + 2,
-        statements,
-        arguments,
-        i,
-        a,
-    )
+    let list = macro_head(source, p + 2, arguments)?;
+    let n = list.arguments;
+    let tail = macro_tail(source, strict, n, list.end, statements, arguments, before)?;
+    let found = Found {
+        inputs: n,
+        statements: tail.body.statements,
+        a: tail.takes,
+        b: tail.returns,
+        ..Found::bare(kind.into(), first, p + 1, tail.body.at)
+    };
+    Ok(DefRead {
+        definition: found.definition(before),
+        arguments: tail.body.arguments,
+    })
 }

@@ -1,28 +1,32 @@
 // What stands behind the name of a function, an event or an error.
-ghost use Rattle.std.specs.Prelude.{ℕ, ◌≤◌, ◌≡◌, List, length};
-ghost use Rattle.tokens.specs.Number.{most_tokens, function_definition};
+ghost use Rattle.std.specs.Prelude.{ℕ, ◌≤◌, List};
+ghost use Rattle.tokens.specs.Number.{most_tokens};
 ghost use Rattle.grammar.specs.Reading.{Argument};
 ghost use Rattle.grammar.specs.FileReader.{function_type, function_rest};
 ghost use Rattle.tokens.specs.Place.{Place, tokens_from};
-ghost use Rattle.definitions.specs.Pieces.{TypeRead, OutputsRead, SignatureRead, list_sort, list_number, list_rest, outputs_rest};
+ghost use Rattle.definitions.specs.Pieces.{TypeRead, OutputsRead, SignatureRead, list_definition, list_rest, outputs_rest};
+ghost use Rattle.tokens.specs.Source.{all_from, count};
 
-use lists::{ArgList, Sort, parse_args};
-use tokens::{kind, kind_at, number};
+use crate::record::DefinitionKind;
+use lists::{Sort, parse_args};
+use tokens::{Refusal, Source, Wrong, kind};
 
-// The place behind it, the inputs and outputs, and a function's type; an event and an error have no outputs and type 0.
+// The types of a function, by document 01's numbers.
+#[derive(Clone, Copy)]
+pub enum FunctionType {
+    View = 1,
+    Pure = 2,
+    Payable = 3,
+    NonPayable = 4,
+}
+
+// The place behind it, the inputs and outputs, and a function's type; an event and an error have no outputs.
 #[derive(Clone, Copy)]
 pub struct Signature {
     pub end: usize,
     pub inputs: usize,
     pub outputs: usize,
-    pub ty: u32,
-}
-
-// The signature; or a refusal's number and cursor.
-#[derive(Drop)]
-pub enum Behind {
-    Signed(Signature),
-    Refused(u32, usize),
+    pub ty: Option<FunctionType>,
 }
 
 // What is a list behind its name.
@@ -32,103 +36,119 @@ pub enum Listed {
     Error,
 }
 
-// The sort of its list.
-fn list_sort(listed: Listed) -> Sort
-    ensures { result ≡ list_sort listed }
-{
-    match listed {
-        Listed::Event => Sort::Event,
-        Listed::Error => Sort::Typed,
+impl Listed {
+    ghost use Rattle.std.specs.Prelude.{◌≡◌};
+    ghost use Rattle.definitions.specs.Pieces.{list_sort, list_kind};
+
+    // The sort of its list.
+    fn sort(self) -> Sort
+        ensures { result ≡ list_sort self }
+    {
+        match self {
+            Listed::Event => Sort::Event,
+            Listed::Error => Sort::Typed,
+        }
+    }
+
+    // The kind of the token that it begins with.
+    pub fn keyword(self) -> u32
+        ensures { result ≡ list_kind self }
+    {
+        match self {
+            Listed::Event => kind::EVENT,
+            Listed::Error => kind::ERROR,
+        }
+    }
+}
+
+impl From<Listed> for DefinitionKind {
+    ghost use Rattle.std.specs.Prelude.{◌≡◌};
+    ghost use Rattle.definitions.specs.Pieces.{list_definition};
+
+    ghost from_gives = { λ from kind. kind ≡ list_definition from };
+
+    fn from(from: Listed) -> DefinitionKind {
+        match from {
+            Listed::Event => DefinitionKind::Event,
+            Listed::Error => DefinitionKind::Error,
+        }
     }
 }
 
 // An event's or an error's list.
 pub fn list_behind(
-    text: &[u8],
-    tokens: &[u32],
-    kept: &[u32],
+    source: &Source,
     listed: Listed,
     p: usize,
     arguments: &mut [u32],
-) -> Behind
-    requires { Place tokens.now kept.now p }
-    ensures { SignatureRead (list_number listed) p (length kept.now)
-        (list_rest listed p (tokens_from text.now tokens.now kept.now p))
+) -> Result<Signature, Refusal>
+    requires { Place source.now.tokens.now source.now.kept.now p }
+    ensures { SignatureRead (list_definition listed) p (count source.now)
+        (list_rest listed p (all_from source.now p))
         arguments.old result arguments.new }
 {
-    match parse_args(text, tokens, kept, list_sort(listed), p, arguments, 0) {
-        ArgList::Done(n, e) => Behind::Signed(Signature {
-            end: e,
-            inputs: n,
-            outputs: 0,
-            ty: 0,
-        }),
-        ArgList::Refused(c, q) => Behind::Refused(c, q),
-    }
+    let list = parse_args(source, listed.sort(), p, arguments, 0)?;
+    Ok(Signature {
+        end: list.end,
+        inputs: list.arguments,
+        outputs: 0,
+        ty: None,
+    })
 }
 
-// A function's type, in the order View, Pure, Payable, NonPayable; 0 if none stands at p, whatever the text.
-fn function_type(tokens: &[u32], kept: &[u32], p: usize) -> u32
-    requires { Place tokens.now kept.now p }
-    ensures { (text : List ℕ) → TypeRead p (length kept.now) (function_type p (tokens_from text tokens.now kept.now p)) result }
+// A function's type, whatever the text.
+#[tactic(auto, using(crate::proofs::DefinitionLaws::type_missing))]
+fn function_type(source: &Source, p: usize) -> Result<FunctionType, Refusal>
+    requires { Place source.now.tokens.now source.now.kept.now p }
+    ensures { (text : List ℕ) → TypeRead p (count source.now) (function_type p (tokens_from text source.now.tokens.now source.now.kept.now p)) result }
 {
-    match kind_at(tokens, kept, p) {
-        kind::VIEW => number::FUNCTION_VIEW,
-        kind::PURE => number::FUNCTION_PURE,
-        kind::PAYABLE => number::FUNCTION_PAYABLE,
-        kind::NON_PAYABLE => number::FUNCTION_NON_PAYABLE,
-        _ => 0,
+    match source.kind_at(p) {
+        kind::VIEW => Ok(FunctionType::View),
+        kind::PURE => Ok(FunctionType::Pure),
+        kind::PAYABLE => Ok(FunctionType::Payable),
+        kind::NON_PAYABLE => Ok(FunctionType::NonPayable),
+        _ => Err(Refusal::new(Wrong::UnexpectedType, p)),
     }
 }
 
-// A function behind its n inputs: type, Returns, outputs.
+// A function behind its n inputs: type, Returns, outputs. The table and n go together as in `parse_args` of `lists`, which is lent both; and that n is small is
+// asked beside `Place`, which knows of places alone.
 fn outputs_behind(
-    text: &[u8],
-    tokens: &[u32],
-    kept: &[u32],
+    source: &Source,
     p: usize,
     arguments: &mut [u32],
     n: usize,
-) -> Behind
-    requires place { Place tokens.now kept.now p }
+) -> Result<Signature, Refusal>
+    requires place { Place source.now.tokens.now source.now.kept.now p }
     requires n_le_most_tokens { n ≤ most_tokens }
-    ensures { (inputs : List Argument) → OutputsRead inputs n p (length kept.now)
-        (outputs_rest inputs p (tokens_from text.now tokens.now kept.now p))
+    ensures { (inputs : List Argument) → OutputsRead inputs n p (count source.now)
+        (outputs_rest inputs p (all_from source.now p))
         arguments.old result arguments.new }
 {
-    let ty = function_type(tokens, kept, p);
-    if ty == 0 {
-        return Behind::Refused(number::UNEXPECTED_TYPE, p);
+    let ty = function_type(source, p)?;
+    if source.kind_at(p + 1) != kind::RETURNS {
+        return Err(Refusal::new(Wrong::UnexpectedType, p + 1));
     }
-    if kind_at(tokens, kept, p + 1) != kind::RETURNS {
-        return Behind::Refused(number::UNEXPECTED_TYPE, p + 1);
-    }
-    match parse_args(text, tokens, kept, Sort::Typed, p + 2, arguments, n) {
-        ArgList::Done(m, e) => Behind::Signed(Signature {
-            end: e,
-            inputs: n,
-            outputs: m - n,
-            ty: ty,
-        }),
-        ArgList::Refused(c, q) => Behind::Refused(c, q),
-    }
+    let list = parse_args(source, Sort::Typed, p + 2, arguments, n)?;
+    Ok(Signature {
+        end: list.end,
+        inputs: n,
+        outputs: list.arguments - n,
+        ty: Some(ty),
+    })
 }
 
 // A function behind its name: inputs, type, Returns, outputs.
 pub fn function_behind(
-    text: &[u8],
-    tokens: &[u32],
-    kept: &[u32],
+    source: &Source,
     p: usize,
     arguments: &mut [u32],
-) -> Behind
-    requires { Place tokens.now kept.now p }
-    ensures { SignatureRead function_definition p (length kept.now)
-        (function_rest p (tokens_from text.now tokens.now kept.now p))
+) -> Result<Signature, Refusal>
+    requires { Place source.now.tokens.now source.now.kept.now p }
+    ensures { SignatureRead DefinitionKind.Function p (count source.now)
+        (function_rest p (all_from source.now p))
         arguments.old result arguments.new }
 {
-    match parse_args(text, tokens, kept, Sort::Typed, p, arguments, 0) {
-        ArgList::Done(n, e) => outputs_behind(text, tokens, kept, e, arguments, n),
-        ArgList::Refused(c, q) => Behind::Refused(c, q),
-    }
+    let list = parse_args(source, Sort::Typed, p, arguments, 0)?;
+    outputs_behind(source, list.end, arguments, list.arguments)
 }

@@ -37,7 +37,9 @@ use Rattle.grammar.proofs.Tabled.{stored_filled, walk_labels_all}
 use Rattle.grammar.proofs.FileTabled.{file_tabled, file_walked}
 use Rattle.grammar.proofs.FileCases.{row_read, file_outcomes, file_rows_hold, strict_files_hold}
 use Rattle.statements.proofs.Called.{Through, number_is}
-use Rattle.files.specs.declared.entry.File.{File}
+use Rattle.std.specs.Prelude.{Result}
+use Rattle.files.specs.declared.file.FileRead.{FileRead}
+use Rattle.files.specs.declared.entry.FileError.{FileError}
 use Rattle.files.specs.Call.{values, number_of, after_reading, file_reading, file_answered, FileCall}
 
 -- the n kept tokens before an Eof follow the grammar by the mode's rules, no two macros, fns or tests share a name, and they read ds
@@ -121,7 +123,7 @@ module _ (mode : ℕ) (text words kept definitions statements arguments : List �
   entrance_says false e = rw e (says_36 e)
   entrance_says true e = rw e (door_says e (door text words 0 (length kept)) (door_means text words 0 (length kept)))
 
-module _ {mode : ℕ} {text words kept definitions statements arguments : List ℕ} {r : File} {kept' definitions' statements' arguments' : List ℕ}
+module _ {mode : ℕ} {text words kept definitions statements arguments : List ℕ} {r : Result FileRead FileError} {kept' definitions' statements' arguments' : List ℕ}
     (call : FileCall mode text words kept definitions statements arguments r kept' definitions' statements' arguments') where
   abbrev tokens : List Token
   tokens = kept_tokens text words
@@ -267,21 +269,21 @@ module _ {mode : ℕ} {text words kept definitions statements arguments : List �
 -- ---- with room
 
 -- the answer and the tables are those of an outcome, accepted or refused
-pub record Told (definitions statements arguments : List ℕ) (r : File) (definitions' statements' arguments' : List ℕ) (o : FileOutcome) : Type 0 where
+pub record Told (definitions statements arguments : List ℕ) (r : Result FileRead FileError) (definitions' statements' arguments' : List ℕ) (o : FileOutcome) : Type 0 where
   pub answer : values r ≡ o.answers
   pub definitions_hold : definitions' ≡ filled (length definitions) o.definitions
   pub statements_hold : statements' ≡ filled (length statements) o.statements
   pub arguments_hold : arguments' ≡ filled (length arguments) o.arguments
 
 -- a mode that there is, a well-formed list and a kept list long enough: the call is let through, and answers by the reading
-answers_reading : {mode : ℕ} {text words kept definitions statements arguments : List ℕ} {r : File} {kept' definitions' statements' arguments' : List ℕ}
+answers_reading : {mode : ℕ} {text words kept definitions statements arguments : List ℕ} {r : Result FileRead FileError} {kept' definitions' statements' arguments' : List ℕ}
     → is_mode mode ≡ true → WellFormed text words → length (kept_of words) ≤ length kept
     → FileCall mode text words kept definitions statements arguments r kept' definitions' statements' arguments'
     → values r ≡ after_reading (kept_tokens text words) (file_reading mode text words) (length definitions) (length statements) (length arguments)
 answers_reading {text = text} {words} {kept} known formed enough call = call.answer ∙ rw (known, let_through text words 0 (length kept) formed enough (kept_not_empty text words formed))
 
 -- and tables with room for the reading's records: it answers the reading
-pub with_room : {mode : ℕ} {text words kept definitions statements arguments : List ℕ} {r : File} {kept' definitions' statements' arguments' : List ℕ}
+pub with_room : {mode : ℕ} {text words kept definitions statements arguments : List ℕ} {r : Result FileRead FileError} {kept' definitions' statements' arguments' : List ℕ}
     → is_mode mode ≡ true → WellFormed text words → length (kept_of words) ≤ length kept
     → (o : FileOutcome) → file_outcome (kept_tokens text words) (kept_positions words) (file_reading mode text words) ≡ o
     → length o.definitions ≤ length definitions / definition_width
@@ -317,7 +319,7 @@ abbrev pub too_few : ℕ → FileOutcome
 too_few need = record { answers = refusal number.DefinitionsTooSmall need; definitions = []; statements = []; arguments = [] }
 
 -- a table of definitions without room for those of the reading: 32
-pub too_few_definitions : {mode : ℕ} {text words kept definitions statements arguments : List ℕ} {r : File} {kept' definitions' statements' arguments' : List ℕ}
+pub too_few_definitions : {mode : ℕ} {text words kept definitions statements arguments : List ℕ} {r : Result FileRead FileError} {kept' definitions' statements' arguments' : List ℕ}
     → is_mode mode ≡ true → WellFormed text words → length (kept_of words) ≤ length kept
     → (o : FileOutcome) → file_outcome (kept_tokens text words) (kept_positions words) (file_reading mode text words) ≡ o
     → length definitions / definition_width < length o.definitions
@@ -348,7 +350,7 @@ too_few_definitions {mode} {text} {words} {definitions = definitions} {statement
 -- numbers and tables
 abbrev pub Answered : ℕ → (ℕ → List ℕ) → FileRow → Type 0
 Answered mode texts row =
-    (text words kept definitions statements arguments : List ℕ) (r : File) (kept' definitions' statements' arguments' : List ℕ)
+    (text words kept definitions statements arguments : List ℕ) (r : Result FileRead FileError) (kept' definitions' statements' arguments' : List ℕ)
     → WellFormed text words
     → kept_tokens text words ≡ tokens_of texts 0 (ended row.input)
     → length (kept_of words) ≤ length kept

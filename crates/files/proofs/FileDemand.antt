@@ -20,11 +20,13 @@ use Rattle.grammar.specs.FileCases.{file_outcome}
 use Rattle.grammar.proofs.FileDemand.{file_exactly, file_only_one}
 use Rattle.grammar.proofs.FileRecorded.{file_as_many}
 use Rattle.grammar.proofs.FileBounds.{file_bounded}
-use Rattle.files.specs.declared.entry.File.{File}
+use Rattle.std.specs.Prelude.{Result}
+use Rattle.files.specs.declared.file.FileRead.{FileRead}
+use Rattle.files.specs.declared.entry.FileError.{FileError}
 use Rattle.files.specs.Call.{number_of, file_reading, FileCall}
 use Rattle.files.proofs.Called.{IsFile, Room, Holding, accepted, with_room, file_call_ranges}
 
-module _ {mode : ℕ} {text words kept definitions statements arguments : List ℕ} {r : File} {kept' definitions' statements' arguments' : List ℕ}
+module _ {mode : ℕ} {text words kept definitions statements arguments : List ℕ} {r : Result FileRead FileError} {kept' definitions' statements' arguments' : List ℕ}
     (call : FileCall mode text words kept definitions statements arguments r kept' definitions' statements' arguments') where
   -- what demand 3 says of a file that ends at n: no other reading; answer and tables are those of this one; the ranges of each macro's statements and of each
   -- table's entries cover the tokens between its braces, and no label holds a label

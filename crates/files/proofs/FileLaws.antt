@@ -3,13 +3,13 @@
 use Prim.Native.Nat.{ℕ, zero, suc, ◌+◌, ◌-◌, ◌≤◌, ◌<◌, min, ◌*◌}
 use native.Mathlib.Nat.{add-zero, zero-add}
 use native.Mathlib.Omega.{arith}
-use native.Mathlib.Numerals.{add-one}
 use mathlib.Core.Path.{◌≡◌, refl, sym, ap, ◌∙◌}
 use mathlib.Core.Bool.{Bool, true, false}
 use mathlib.Core.List.{List, [], ◌∷◌, map, map-append}
 use borrow.Author.Tests.{eq-eqb, ne_eqb}
 use borrow.Rule.Slice.PartMut.{mid_of, put_mid}
 use lib.ListN.{length, drop, length-append, length-map}
+use Rattle.std.specs.Prelude.{Result, Ok, Err}
 use Rattle.tokens.specs.Kind.{Eof}
 use Rattle.tokens.specs.Token.{Token, token_at, view, Positions, positions}
 use Rattle.tokens.specs.Place.{KindAt}
@@ -29,24 +29,21 @@ use Rattle.grammar.proofs.FileRecorded.{form_many}
 use Rattle.grammar.proofs.AtPlace.{many_ends, many_goes, many_refuses, many_runs_out}
 use Rattle.definitions.specs.declared.record.Definition as code
 use Rattle.definitions.specs.declared.record.DefRead.{DefRead}
-use Rattle.definitions.specs.declared.record.DefRead.TheVariants as defs
-use Rattle.files.specs.declared.file.FileRead.TheVariants as files
-use Rattle.names.specs.Names.{names_at, Noted, Fresh, Noting, Checked}
-use Rattle.names.proofs.NamesLaws.{fresh_noted}
-use Rattle.files.specs.Answers.{FileParsed}
-use Rattle.definitions.specs.Answers.{code_definition, is_named, own_statements, own_arguments, DefAdded, DefWithin}
+use Rattle.names.specs.Names.{Seen, Checked}
+use Rattle.files.specs.Answers.{Readable, FileParsed}
+use Rattle.definitions.specs.Answers.{definition_number, code_definition, is_named, own_statements, own_arguments, DefAdded, DefWithin}
 use Rattle.definitions.proofs.HeadLaws.{named_is}
 
 -- ---- the rests of the tables
 
 -- what is put at the beginning of the lent rests stands in the tables behind the records before
-pub added : (all : List Token) (pos : Positions) (p d i a size : ℕ) (read : Res Definition) (de st ar : List ℕ) (r : DefRead) (x y z : ℕ) (de₁ st₁ ar₁ : List ℕ)
+pub added : {all : List Token} {pos : Positions} {p d i a size x y z : ℕ} {read : Res Definition} {de st ar de₁ st₁ ar₁ : List ℕ} {r : Result DefRead (ℕ × ℕ)}
     → x ≡ min (d * definition_width) (length de)
     → y ≡ min (i * statement_width) (length st)
     → z ≡ min (a * argument_width) (length ar)
-    → DefAdded all pos p i a size read 0 0 0 (mid_of x (length de - x) de) (mid_of y (length st - y) st) (mid_of z (length ar - z) ar) r de₁ st₁ ar₁
-    → DefAdded all pos p i a size read d i a de st ar r (put_mid x (length de - x) de de₁) (put_mid y (length st - y) st st₁) (put_mid z (length ar - z) ar ar₁)
-added all pos p d i a size (got v k) de st ar r x y z de₁ st₁ ar₁ ex ey ez h =
+    → DefAdded all pos p (record { statements = i; arguments = a }) size read 0 0 0 (mid_of x (length de - x) de) (mid_of y (length st - y) st) (mid_of z (length ar - z) ar) r de₁ st₁ ar₁
+    → DefAdded all pos p (record { statements = i; arguments = a }) size read d i a de st ar r (put_mid x (length de - x) de de₁) (put_mid y (length st - y) st st₁) (put_mid z (length ar - z) ar ar₁)
+added {pos = pos} {d = d} {i} {a} {x = x} {y} {z} {read = got v k} {de} {st} {ar} ex ey ez h =
     record {
       is = h.is;
       definitions_hold =
@@ -54,14 +51,14 @@ added all pos p d i a size (got v k) de st ar r x y z de₁ st₁ ar₁ ex ey ez
           ∙ rest_written definition_width (definition_record pos i a v ∷ []) de d x (omega arith) ex;
       statements_hold =
           ap (put_mid y (length st - y) st) h.statements_hold
-          ∙ rest_written statement_width (own_statements i a v) st i y (omega arith) ey;
+          ∙ rest_written statement_width (own_statements (record { statements = i; arguments = a }) v) st i y (omega arith) ey;
       arguments_hold =
           ap (put_mid z (length ar - z) ar) h.arguments_hold
           ∙ rest_written argument_width (own_arguments v) ar a z (omega arith) ez;
       stands = h.stands;
       within = h.within;
     }
-added all pos p d i a size (bad w q) de st ar r x y z de₁ st₁ ar₁ ex ey ez h =
+added {read = bad w q} ex ey ez h =
     record { is = h.is; definitions_hold = tt; statements_hold = tt; arguments_hold = tt; stands = tt; within = h.within }
 
 -- ---- how the loop ends
@@ -172,69 +169,69 @@ module _ (rules : Rules) (all : List Token) (pos : Positions) (de st ar : List �
     unfolding repeats
     unnamed x m = rw m
 
-    module _ (size : ℕ) (r : DefRead) (de' st' ar' : List ℕ) where
+    module _ (size : ℕ) (r : Result DefRead (ℕ × ℕ)) (de' st' ar' : List ℕ) where
       abbrev pub Turn : Res Definition → Type 0
-      Turn read = DefAdded all pos p i a size read d i a de st ar r de' st' ar'
+      Turn read = DefAdded all pos p (record { statements = i; arguments = a }) size read d i a de st ar r de' st' ar'
 
       -- the definition is refused
-      pub refused : (read : Res Definition) (c q : ℕ) → top_level rules p (drop p all) ≡ read → Turn read → r ≡ defs.Refused c q → left rules all pos de st ar d i a seen p ≡ stopped c q
-      refused (got x k) c q e h g = absurd (let z : ◌≡◌ {A = ℕ} 0 1 = cc h.is in omega arith)
-      refused (bad y w) c q e h g = refuses y w (turned_away_lem y w e) ∙ cc h.is
+      pub refused : (read : Res Definition) (f : ℕ × ℕ) → top_level rules p (drop p all) ≡ read → Turn read → r ≡ Err f → left rules all pos de st ar d i a seen p ≡ stopped f.0 f.1
+      refused (got x k) f e h g = absurd (let z : ◌≡◌ {A = ℕ} 0 1 = cc h.is in omega arith)
+      refused (bad y w) f e h g = refuses y w (turned_away_lem y w e) ∙ ap (λ (f : ℕ × ℕ). stopped f.0 f.1) (cc h.is)
 
       -- what an accepted one tells: the definition and its argument records are those of the reading
-      record Told (x : Definition) (k : ℕ) (f : code.Definition) (n : ℕ) : Type 0 where
-        found : code_definition i a x ≡ f
-        count : length (form_arguments x.form) ≡ n
+      record Told (x : Definition) (k : ℕ) (f : DefRead) : Type 0 where
+        found : code_definition (record { statements = i; arguments = a }) x ≡ f.definition
+        count : length (form_arguments x.form) ≡ f.arguments
         ends : x.end ≡ p + k
         more : p < p + k
 
-      told : (x : Definition) (k : ℕ) (f : code.Definition) (n : ℕ) → Turn (got x k) → r ≡ defs.Done f n → Told x k f n
-      told x k f n h g =
-          let found : code_definition i a x ≡ f = cc h.is in
-          let bounds : DefWithin 8 p size (defs.Done f n) = rw g at h.within in
+      told : (x : Definition) (k : ℕ) (f : DefRead) → Turn (got x k) → r ≡ Ok f → Told x k f
+      told x k f h g =
+          let found : code_definition (record { statements = i; arguments = a }) x ≡ f.definition = cc h.is in
+          let bounds : DefWithin 8 p size (Ok f) = rw g at h.within in
           let low : p < x.end = rw (← found) at bounds.0 in
           record { found = found; count = (cc h.is); ends = h.stands.1; more = rw h.stands.1 at low }
 
       -- whether it is a macro, fn or test
-      kind_tells : (x : Definition) (k : ℕ) (f : code.Definition) (n : ℕ) {b : Bool} → Told x k f n → is_named f.kind ≡ b → is_macro x.form ≡ b
-      kind_tells x k f n t e = sym (named_is x.form) ∙ ap (λ (f : code.Definition). is_named f.kind) t.found ∙ e
+      kind_tells : (x : Definition) (k : ℕ) (f : DefRead) {b : Bool} → Told x k f → is_named (definition_number f.definition.kind) ≡ b → is_macro x.form ≡ b
+      kind_tells x k f t e = sym (named_is x.form) ∙ ap (λ (f : code.Definition). is_named (definition_number f.kind)) t.found ∙ e
 
       -- no macro, fn or test
-      pub other_found : (read : Res Definition) (f : code.Definition) (n : ℕ) → top_level rules p (drop p all) ≡ read → Turn read → r ≡ defs.Done f n → is_named f.kind ≡ false
-          → left rules all pos de st ar d i a seen p ≡ left rules all pos de' st' ar' (d + 1) (i + f.statements) (a + n) seen f.end
-      other_found (got x k) f n e h g o =
-          let t = told x k f n h g in
-          let m = kind_tells x k f n t o in
+      pub other_found : (read : Res Definition) (f : DefRead) → top_level rules p (drop p all) ≡ read → Turn read → r ≡ Ok f → is_named (definition_number f.definition.kind) ≡ false
+          → left rules all pos de st ar d i a seen p ≡ left rules all pos de' st' ar' (d + 1) (i + f.definition.statements) (a + f.arguments) seen f.definition.end
+      other_found (got x k) f e h g o =
+          let t = told x k f h g in
+          let m = kind_tells x k f t o in
           let step = goes x k (taken x k e (unnamed x m)) t.more in
           let same_seen : remember_name seen x ≡ seen = rw m in
           rw (h.definitions_hold, h.statements_hold, h.arguments_hold, ← t.found, ← t.count) (rw (same_seen, ← t.ends) at step)
-      other_found (bad y w) f n e h g o = absurd (let z : ◌≡◌ {A = ℕ} 0 1 = cc h.is in omega arith)
+      other_found (bad y w) f e h g o = absurd (let z : ◌≡◌ {A = ℕ} 0 1 = cc h.is in omega arith)
 
       -- a macro, fn or test of a new name
-      pub macro_found : (read : Res Definition) (f : code.Definition) (n : ℕ) (seen' : List (List ℕ)) → top_level rules p (drop p all) ≡ read → Turn read → r ≡ defs.Done f n → is_named f.kind ≡ true
-          → one_of seen (token_at all f.name).text ≡ false
-          → seen' ≡ (token_at all f.name).text ∷ seen
-          → left rules all pos de st ar d i a seen p ≡ left rules all pos de' st' ar' (d + 1) (i + f.statements) (a + n) seen' f.end
-      macro_found (got x k) f n seen' e h g c o s =
-          let t = told x k f n h g in
-          let m = kind_tells x k f n t c in
+      pub macro_found : (read : Res Definition) (f : DefRead) (seen' : List (List ℕ)) → top_level rules p (drop p all) ≡ read → Turn read → r ≡ Ok f → is_named (definition_number f.definition.kind) ≡ true
+          → one_of seen (token_at all f.definition.name).text ≡ false
+          → seen' ≡ (token_at all f.definition.name).text ∷ seen
+          → left rules all pos de st ar d i a seen p ≡ left rules all pos de' st' ar' (d + 1) (i + f.definition.statements) (a + f.arguments) seen' f.definition.end
+      macro_found (got x k) f seen' e h g c o s =
+          let t = told x k f h g in
+          let m = kind_tells x k f t c in
           let new : one_of seen (token_at all x.name).text ≡ false = rw (← t.found) at o in
           let step = goes x k (taken x k e (repeats_is x m h.stands.0 new)) t.more in
           let all_seen : seen' ≡ (token_at all x.name).text ∷ seen = rw (← t.found) at s in
           let same_seen : remember_name seen x ≡ seen' = rw (m, h.stands.0) (sym all_seen) in
           rw (h.definitions_hold, h.statements_hold, h.arguments_hold, ← t.found, ← t.count) (rw (same_seen, ← t.ends) at step)
-      macro_found (bad y w) f n seen' e h g c o s = absurd (let z : ◌≡◌ {A = ℕ} 0 1 = cc h.is in omega arith)
+      macro_found (bad y w) f seen' e h g c o s = absurd (let z : ◌≡◌ {A = ℕ} 0 1 = cc h.is in omega arith)
 
       -- a macro, fn or test of an earlier one's name
-      pub macro_repeats : (read : Res Definition) (f : code.Definition) (n : ℕ) → top_level rules p (drop p all) ≡ read → Turn read → r ≡ defs.Done f n → is_named f.kind ≡ true
-          → one_of seen (token_at all f.name).text ≡ true
-          → left rules all pos de st ar d i a seen p ≡ stopped DuplicateMacro f.name
-      macro_repeats (got x k) f n e h g c o =
-          let t = told x k f n h g in
-          let m = kind_tells x k f n t c in
+      pub macro_repeats : (read : Res Definition) (f : DefRead) → top_level rules p (drop p all) ≡ read → Turn read → r ≡ Ok f → is_named (definition_number f.definition.kind) ≡ true
+          → one_of seen (token_at all f.definition.name).text ≡ true
+          → left rules all pos de st ar d i a seen p ≡ stopped DuplicateMacro f.definition.name
+      macro_repeats (got x k) f e h g c o =
+          let t = told x k f h g in
+          let m = kind_tells x k f t c in
           let old : one_of seen (token_at all x.name).text ≡ true = rw (← t.found) at o in
           refuses (plain DuplicateMacro) x.name (twice x k e (repeats_is x m h.stands.0 old)) ∙ ap (stopped DuplicateMacro) (add-zero x.name ∙ ap (λ (f : code.Definition). f.name) t.found)
-      macro_repeats (bad y w) f n e h g c o = absurd (let z : ◌≡◌ {A = ℕ} 0 1 = cc h.is in omega arith)
+      macro_repeats (bad y w) f e h g c o = absurd (let z : ◌≡◌ {A = ℕ} 0 1 = cc h.is in omega arith)
 
 -- ---- the same by places of the kept list
 
@@ -251,7 +248,7 @@ module _ (text words kept : List ℕ) (p k : ℕ) (kind : KindAt words kept p k)
 -- ---- what the ends promise
 
 module _ (pos : Positions) (de st ar de' st' ar' : List ℕ) where
-  pub parsed_ended : (read : Res (List Definition)) (p d i a : ℕ) → ended p d i a de' st' ar' ≡ outcome pos de st ar 0 0 0 0 read → FileParsed pos read de st ar (files.Done p d i a) de' st' ar'
+  pub parsed_ended : (read : Res (List Definition)) (p d i a : ℕ) → ended p d i a de' st' ar' ≡ outcome pos de st ar 0 0 0 0 read → FileParsed pos read de st ar (Ok (record { cursor = p; definitions = d; statements = i; arguments = a })) de' st' ar'
   parsed_ended (got ds k) p d i a e =
       record {
         is = cc (zero-add k, zero-add (length ds), zero-add (file_statement_count ds), zero-add (length (file_arguments ds)));
@@ -261,140 +258,119 @@ module _ (pos : Positions) (de st ar de' st' ar' : List ℕ) where
       }
   parsed_ended (bad y w) p d i a e = absurd (let z : ◌≡◌ {A = ℕ} 0 1 = cc in omega arith)
 
-  pub parsed_stopped : (read : Res (List Definition)) (c q : ℕ) → stopped c q ≡ outcome pos de st ar 0 0 0 0 read → FileParsed pos read de st ar (files.Refused c q) de' st' ar'
+  pub parsed_stopped : (read : Res (List Definition)) (c q : ℕ) → stopped c q ≡ outcome pos de st ar 0 0 0 0 read → FileParsed pos read de st ar (Err (c, q)) de' st' ar'
   parsed_stopped (got ds k) c q e = absurd (let z : ◌≡◌ {A = ℕ} 0 1 = cc in omega arith)
   parsed_stopped (bad y w) c q e = record { is = cc; definitions_hold = tt; statements_hold = tt; arguments_hold = tt }
 
 -- ---- the loop of parse
 
 -- what is still to be read from place p comes to the whole reading; what is remembered of names; and bounds
-pub record Loop (rules : Rules) (text words kept de₀ st₀ ar₀ heads₀ next₀ places₀ de st ar heads next places : List ℕ) (p d i a m : ℕ) : Type 0 where
-  pub ends : left rules (view text words kept) (positions words kept) de st ar d i a (names_at (view text words kept) places m) p ≡ outcome (positions words kept) de₀ st₀ ar₀ 0 0 0 0 (parse rules true [] 0 (view text words kept))
-  pub noted : Noted (view text words kept) heads next places m
+pub record Loop (rules : Rules) (text words kept de₀ st₀ ar₀ de st ar : List ℕ) (size : ℕ) (now : Seen) (p d i a : ℕ) : Type 0 where
+  pub ends : left rules (view text words kept) (positions words kept) de st ar d i a now.names p ≡ outcome (positions words kept) de₀ st₀ ar₀ 0 0 0 0 (parse rules true [] 0 (view text words kept))
+  pub same : now.tokens ≡ view text words kept
+  pub room : now.room ≡ size
   pub inside : p ≤ length kept
   pub definitions : d ≤ p
   pub statements : i ≤ p
   pub arguments : a ≤ p
-  pub names : 8 * m ≤ p
-  pub same_definitions : length de ≡ length de₀
-  pub same_statements : length st ≡ length st₀
-  pub same_arguments : length ar ≡ length ar₀
-  pub same_heads : length heads ≡ length heads₀
-  pub same_next : length next ≡ length next₀
-  pub same_places : length places ≡ length places₀
+  pub names : 8 * length now.names ≤ p
 
-pub loop_begins : (rules : Rules) (text words kept de st ar heads next places : List ℕ) → Fresh 8 (length kept) heads next places → Loop rules text words kept de st ar heads next places de st ar heads next places 0 0 0 0 0
-unfolding names_at parse
-loop_begins rules text words kept de st ar heads next places room =
+pub loop_begins : (rules : Rules) (text words kept de st ar : List ℕ) {now : Seen} → Readable text words kept now → Loop rules text words kept de st ar de st ar now.room now 0 0 0 0
+unfolding parse
+loop_begins rules text words kept de st ar ready =
     record {
-      ends = refl;
-      noted = fresh_noted (view text words kept) room;
+      ends = rw ready.room.fresh refl;
+      same = ready.room.same;
+      room = refl;
       inside = omega arith;
       definitions = omega arith;
       statements = omega arith;
       arguments = omega arith;
-      names = omega arith;
-      same_definitions = refl;
-      same_statements = refl;
-      same_arguments = refl;
-      same_heads = refl;
-      same_next = refl;
-      same_places = refl;
+      names = rw ready.room.fresh (omega arith);
     }
 
-module _ {rules : Rules} {text words kept de₀ st₀ ar₀ heads₀ next₀ places₀ de st ar heads next places : List ℕ} {p d i a m : ℕ}
-    (loop : Loop rules text words kept de₀ st₀ ar₀ heads₀ next₀ places₀ de st ar heads next places p d i a m) where
+module _ {rules : Rules} {text words kept de₀ st₀ ar₀ de st ar : List ℕ} {size : ℕ} {now : Seen} {p d i a : ℕ}
+    (loop : Loop rules text words kept de₀ st₀ ar₀ de st ar size now p d i a) where
   abbrev pub whole : Res (List Definition)
   whole = parse rules true [] 0 (view text words kept)
 
   -- Eof
-  pub loop_ends : {k : ℕ} → KindAt words kept p k → k ≡ 0 → p < length kept → FileParsed (positions words kept) whole de₀ st₀ ar₀ (files.Done p d i a) de st ar
+  pub loop_ends : {k : ℕ} → KindAt words kept p k → k ≡ 0 → p < length kept → FileParsed (positions words kept) whole de₀ st₀ ar₀ (Ok (record { cursor = p; definitions = d; statements = i; arguments = a })) de st ar
   loop_ends {k} kind e h =
       parsed_ended (positions words kept) de₀ st₀ ar₀ de st ar whole p d i a
-      (sym (left_end rules (view text words kept) (positions words kept) de st ar d i a (names_at (view text words kept) places m) p (rw (view_length text words kept) h) (at_eof text words kept p k kind e)) ∙ loop.ends)
+      (sym (left_end rules (view text words kept) (positions words kept) de st ar d i a now.names p (rw (view_length text words kept) h) (at_eof text words kept p k kind e)) ∙ loop.ends)
 
   -- past the end
-  pub loop_runs_out : length kept ≤ p → FileParsed (positions words kept) whole de₀ st₀ ar₀ (files.Refused UnexpectedType p) de st ar
+  pub loop_runs_out : length kept ≤ p → FileParsed (positions words kept) whole de₀ st₀ ar₀ (Err (UnexpectedType, p)) de st ar
   loop_runs_out h =
       parsed_stopped (positions words kept) de₀ st₀ ar₀ de st ar whole UnexpectedType p
-      (sym (left_out rules (view text words kept) (positions words kept) de st ar d i a (names_at (view text words kept) places m) p (rw (view_length text words kept) h)) ∙ loop.ends)
+      (sym (left_out rules (view text words kept) (positions words kept) de st ar d i a now.names p (rw (view_length text words kept) h)) ∙ loop.ends)
 
-  module _ {k : ℕ} (kind : KindAt words kept p k) (some : k ≡ 0 → ⊥) {r : DefRead} {de' st' ar' : List ℕ}
-      (turn : DefAdded (view text words kept) (positions words kept) p i a (length kept) (top_level rules p (drop p (view text words kept))) d i a de st ar r de' st' ar') where
+  module _ {k : ℕ} (kind : KindAt words kept p k) (some : k ≡ 0 → ⊥) {r : Result DefRead (ℕ × ℕ)} {de' st' ar' : List ℕ}
+      (turn : DefAdded (view text words kept) (positions words kept) p (record { statements = i; arguments = a }) (length kept) (top_level rules p (drop p (view text words kept))) d i a de st ar r de' st' ar') where
     -- a refusal
-    pub loop_refuses : (c q : ℕ) → r ≡ defs.Refused c q → FileParsed (positions words kept) whole de₀ st₀ ar₀ (files.Refused c q) de' st' ar'
-    loop_refuses c q g =
-        parsed_stopped (positions words kept) de₀ st₀ ar₀ de' st' ar' whole c q
+    pub loop_refuses : (f : ℕ × ℕ) → r ≡ Err f → FileParsed (positions words kept) whole de₀ st₀ ar₀ (Err f) de' st' ar'
+    loop_refuses f g =
+        parsed_stopped (positions words kept) de₀ st₀ ar₀ de' st' ar' whole f.0 f.1
         (sym
-        (refused rules (view text words kept) (positions words kept) de st ar d i a (names_at (view text words kept) places m) p (in_view text words kept p k kind some) (not_eof text words kept p k kind some) (length kept) r de' st' ar'
-        (top_level rules p (drop p (view text words kept))) c q refl turn g)
+        (refused rules (view text words kept) (positions words kept) de st ar d i a now.names p (in_view text words kept p k kind some) (not_eof text words kept p k kind some) (length kept) r de' st' ar'
+        (top_level rules p (drop p (view text words kept))) f refl turn g)
         ∙ loop.ends)
 
-    module _ (f : code.Definition) (n : ℕ) (g : r ≡ defs.Done f n) where
-      pub bounds : DefWithin 8 p (length kept) (defs.Done f n)
+    module _ (f : DefRead) (g : r ≡ Ok f) where
+      pub bounds : DefWithin 8 p (length kept) (Ok f)
       bounds = rw g at turn.within
 
-      module _ (de-kept : length de' ≡ length de) (st-kept : length st' ≡ length st) (ar-kept : length ar' ≡ length ar) where
-        -- no macro, fn or test
-        pub loop_other : is_named f.kind ≡ false
-            → Loop rules text words kept de₀ st₀ ar₀ heads₀ next₀ places₀ de' st' ar' heads next places f.end (d + 1) (i + f.statements) (a + n) m
-        loop_other o =
-            record {
-              ends =
-                  sym
-                  (other_found rules (view text words kept) (positions words kept) de st ar d i a (names_at (view text words kept) places m) p (in_view text words kept p k kind some) (not_eof text words kept p k kind some) (length kept) r de' st' ar'
-                  (top_level rules p (drop p (view text words kept))) f n refl turn g o)
-                  ∙ loop.ends;
-              noted = loop.noted;
-              inside = bounds.1;
-              definitions = omega (arith, bounds.0, loop.definitions);
-              statements = omega (arith, bounds.2, loop.statements);
-              arguments = omega (arith, bounds.3, loop.arguments);
-              names = omega (arith, bounds.0, loop.names);
-              same_definitions = de-kept ∙ loop.same_definitions;
-              same_statements = st-kept ∙ loop.same_statements;
-              same_arguments = ar-kept ∙ loop.same_arguments;
-              same_heads = loop.same_heads;
-              same_places = loop.same_places;
-              same_next = loop.same_next;
-            }
+      -- no macro, fn or test
+      pub loop_other : is_named (definition_number f.definition.kind) ≡ false
+          → Loop rules text words kept de₀ st₀ ar₀ de' st' ar' size now f.definition.end (d + 1) (i + f.definition.statements) (a + f.arguments)
+      loop_other o =
+          record {
+            ends =
+                sym
+                (other_found rules (view text words kept) (positions words kept) de st ar d i a now.names p (in_view text words kept p k kind some) (not_eof text words kept p k kind some) (length kept) r de' st' ar'
+                (top_level rules p (drop p (view text words kept))) f refl turn g o)
+                ∙ loop.ends;
+            same = loop.same;
+            room = loop.room;
+            inside = bounds.1;
+            definitions = omega (arith, bounds.0, loop.definitions);
+            statements = omega (arith, bounds.2, loop.statements);
+            arguments = omega (arith, bounds.3, loop.arguments);
+            names = omega (arith, bounds.0, loop.names);
+          }
 
-        -- a macro, fn or test of a new name
-        pub loop_macro : is_named f.kind ≡ true → {b : Bool} {heads' next' places' : List ℕ}
-            → Checked (view text words kept) (token_at (view text words kept) f.name).text places m b heads' next' places' → b ≡ false
-            → length heads' ≡ length heads → length next' ≡ length next → length places' ≡ length places
-            → Loop rules text words kept de₀ st₀ ar₀ heads₀ next₀ places₀ de' st' ar' heads' next' places' f.end (d + 1) (i + f.statements) (a + n) (m + 1)
-        loop_macro o {b} {heads'} {next'} {places'} told new x y z =
-            let noting : Noting false (view text words kept) (token_at (view text words kept) f.name).text places m heads' next' places' (suc m) = rw new at told.then in
-            let long : (p + 8 ≤ f.end) × (f.name < f.end) = rw o at bounds.4 in
-            rw (add-one m)
-            record {
-              ends =
-                  sym
-                  (macro_found rules (view text words kept) (positions words kept) de st ar d i a (names_at (view text words kept) places m) p (in_view text words kept p k kind some) (not_eof text words kept p k kind some) (length kept) r de' st' ar'
-                  (top_level rules p (drop p (view text words kept))) f n (names_at (view text words kept) places' (suc m)) refl turn g o (sym told.is ∙ new) noting.1)
-                  ∙ loop.ends;
-              noted = noting.0;
-              inside = bounds.1;
-              definitions = omega (arith, bounds.0, loop.definitions);
-              statements = omega (arith, bounds.2, loop.statements);
-              arguments = omega (arith, bounds.3, loop.arguments);
-              names = omega (arith, long.0, loop.names);
-              same_definitions = de-kept ∙ loop.same_definitions;
-              same_statements = st-kept ∙ loop.same_statements;
-              same_arguments = ar-kept ∙ loop.same_arguments;
-              same_heads = x ∙ loop.same_heads;
-              same_next = y ∙ loop.same_next;
-              same_places = z ∙ loop.same_places;
-            }
+      -- a macro, fn or test of a new name
+      pub loop_macro : is_named (definition_number f.definition.kind) ≡ true → {b : Bool} {after : Seen}
+          → Checked (token_at now.tokens f.definition.name).text now b after → b ≡ false
+          → Loop rules text words kept de₀ st₀ ar₀ de' st' ar' size after f.definition.end (d + 1) (i + f.definition.statements) (a + f.arguments)
+      loop_macro o {after = after} told new =
+          let asked : one_of now.names (token_at (view text words kept) f.definition.name).text ≡ false = rw loop.same at (sym told.is ∙ new) in
+          let then : after ≡ record { tokens = view text words kept; names = (token_at (view text words kept) f.definition.name).text ∷ now.names; room = size } = rw (new, loop.same, loop.room) at told.then in
+          let long : (p + 8 ≤ f.definition.end) × (f.definition.name < f.definition.end) = rw o at bounds.4 in
+          rw then
+          record {
+            ends =
+                sym
+                (macro_found rules (view text words kept) (positions words kept) de st ar d i a now.names p (in_view text words kept p k kind some) (not_eof text words kept p k kind some) (length kept) r de' st' ar'
+                (top_level rules p (drop p (view text words kept))) f ((token_at (view text words kept) f.definition.name).text ∷ now.names) refl turn g o asked refl)
+                ∙ loop.ends;
+            same = refl;
+            room = refl;
+            inside = bounds.1;
+            definitions = omega (arith, bounds.0, loop.definitions);
+            statements = omega (arith, bounds.2, loop.statements);
+            arguments = omega (arith, bounds.3, loop.arguments);
+            names = omega (arith, long.0, loop.names);
+          }
 
       -- a macro, fn or test of an earlier one's name
-      pub loop_repeats : is_named f.kind ≡ true → {b : Bool} {heads' next' places' : List ℕ}
-          → Checked (view text words kept) (token_at (view text words kept) f.name).text places m b heads' next' places' → b ≡ true
-          → FileParsed (positions words kept) whole de₀ st₀ ar₀ (files.Refused DuplicateMacro f.name) de' st' ar'
+      pub loop_repeats : is_named (definition_number f.definition.kind) ≡ true → {b : Bool} {after : Seen}
+          → Checked (token_at now.tokens f.definition.name).text now b after → b ≡ true
+          → FileParsed (positions words kept) whole de₀ st₀ ar₀ (Err (DuplicateMacro, f.definition.name)) de' st' ar'
       loop_repeats o told old =
-          parsed_stopped (positions words kept) de₀ st₀ ar₀ de' st' ar' whole DuplicateMacro f.name
+          parsed_stopped (positions words kept) de₀ st₀ ar₀ de' st' ar' whole DuplicateMacro f.definition.name
           (sym
-          (macro_repeats rules (view text words kept) (positions words kept) de st ar d i a (names_at (view text words kept) places m) p (in_view text words kept p k kind some) (not_eof text words kept p k kind some) (length kept) r de' st' ar'
-          (top_level rules p (drop p (view text words kept))) f n refl turn g o (sym told.is ∙ old))
+          (macro_repeats rules (view text words kept) (positions words kept) de st ar d i a now.names p (in_view text words kept p k kind some) (not_eof text words kept p k kind some) (length kept) r de' st' ar'
+          (top_level rules p (drop p (view text words kept))) f refl turn g o (rw loop.same at (sym told.is ∙ old)))
           ∙ loop.ends)

@@ -31,14 +31,16 @@ use Rattle.grammar.proofs.FileDemand.{file_exactly, file_same_refusal}
 use Rattle.grammar.proofs.FileRecorded.{file_as_wide}
 use Rattle.grammar.proofs.Same.{file_turns, told_away, own_numbers, written, same_table, same_definitions, same_words, file_counted}
 use Rattle.statements.proofs.Called.{number_is, Through}
-use Rattle.files.specs.declared.entry.File.{File}
+use Rattle.std.specs.Prelude.{Result}
+use Rattle.files.specs.declared.file.FileRead.{FileRead}
+use Rattle.files.specs.declared.entry.FileError.{FileError}
 use Rattle.files.specs.Call.{values, number_of, after_reading, file_reading, FileCall}
 use Rattle.files.proofs.Called.{Says, says_36, says_30, says_35, says_refused, says_32, says_33, says_34, says_read, file_call_says, refused_there, with_room}
 use Rattle.files.proofs.Fixed.{one_file_answer}
 
 -- two calls in the same mode
-module _ {mode : ℕ} {text words kept definitions statements arguments : List ℕ} {r : File} {kept' definitions' statements' arguments' : List ℕ}
-    {text₂ words₂ kept₂ definitions₂ statements₂ arguments₂ : List ℕ} {r₂ : File} {kept₂' definitions₂' statements₂' arguments₂' : List ℕ}
+module _ {mode : ℕ} {text words kept definitions statements arguments : List ℕ} {r : Result FileRead FileError} {kept' definitions' statements' arguments' : List ℕ}
+    {text₂ words₂ kept₂ definitions₂ statements₂ arguments₂ : List ℕ} {r₂ : Result FileRead FileError} {kept₂' definitions₂' statements₂' arguments₂' : List ℕ}
     (call : FileCall mode text words kept definitions statements arguments r kept' definitions' statements' arguments')
     (other : FileCall mode text₂ words₂ kept₂ definitions₂ statements₂ arguments₂ r₂ kept₂' definitions₂' statements₂' arguments₂') where
   -- the one is refused with a number of the reading but 20, that is one of 1 to 13, 21 or 22. The other has a well-formed list, a kept list long enough, and the same
@@ -86,7 +88,7 @@ reading_stays rules ts de st ar = go (file_at rules true ts) refl
         pick false false false = refl
 
 -- what the numbers of one call say that two are compared by
-module _ {mode : ℕ} {text words kept definitions statements arguments : List ℕ} {r : File} {kept' definitions' statements' arguments' : List ℕ}
+module _ {mode : ℕ} {text words kept definitions statements arguments : List ℕ} {r : Result FileRead FileError} {kept' definitions' statements' arguments' : List ℕ}
     (call : FileCall mode text words kept definitions statements arguments r kept' definitions' statements' arguments') where
   abbrev entrance : ℕ × ℕ
   entrance = file_entrance mode text words (length kept)
@@ -146,8 +148,8 @@ module _ {mode : ℕ} {text words kept definitions statements arguments : List �
       go v is (says_read n ds l f g) = record { through = l; answers = is ∙ rw ((file_exactly (rules_of mode) true (kept_tokens text words) n ds).1 f) }
 
 -- two calls in the same mode
-module _ {mode : ℕ} {text words kept definitions statements arguments : List ℕ} {r : File} {kept' definitions' statements' arguments' : List ℕ}
-    {text₂ words₂ kept₂ definitions₂ statements₂ arguments₂ : List ℕ} {r₂ : File} {kept₂' definitions₂' statements₂' arguments₂' : List ℕ}
+module _ {mode : ℕ} {text words kept definitions statements arguments : List ℕ} {r : Result FileRead FileError} {kept' definitions' statements' arguments' : List ℕ}
+    {text₂ words₂ kept₂ definitions₂ statements₂ arguments₂ : List ℕ} {r₂ : Result FileRead FileError} {kept₂' definitions₂' statements₂' arguments₂' : List ℕ}
     (call : FileCall mode text words kept definitions statements arguments r kept' definitions' statements' arguments')
     (other : FileCall mode text₂ words₂ kept₂ definitions₂ statements₂ arguments₂ r₂ kept₂' definitions₂' statements₂' arguments₂') where
   -- the answers are equal, and not 30. Turned away, nothing lent has changed; else the kept lists have their own tokens' numbers, and the tables the same records, as

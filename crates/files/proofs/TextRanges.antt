@@ -23,7 +23,9 @@ use Rattle.grammar.proofs.Lists.{all_map, all_mapped}
 use Rattle.grammar.proofs.TextRanges.{InText, text_ranges}
 use Rattle.grammar.proofs.FileCases.{read_in, text_read, text_outcomes, text_rows_hold}
 use Rattle.statements.proofs.Called.{number_is}
-use Rattle.files.specs.declared.entry.File.{File}
+use Rattle.std.specs.Prelude.{Result}
+use Rattle.files.specs.declared.file.FileRead.{FileRead}
+use Rattle.files.specs.declared.entry.FileError.{FileError}
 use Rattle.files.specs.Call.{values, FileCall}
 use Rattle.files.proofs.Called.{accepted, file_call_tables, Told, with_room, too_few, too_few_definitions}
 
@@ -39,7 +41,7 @@ in_text text words formed =
       there = λ p h. ap (λ (t : Token). t.text) (view_inside text words (kept_of words) p (rw many at h));
     }
 
-module _ {mode : ℕ} {text words kept definitions statements arguments : List ℕ} {r : File} {kept' definitions' statements' arguments' : List ℕ}
+module _ {mode : ℕ} {text words kept definitions statements arguments : List ℕ} {r : Result FileRead FileError} {kept' definitions' statements' arguments' : List ℕ}
     (call : FileCall mode text words kept definitions statements arguments r kept' definitions' statements' arguments') where
   -- of an accepted file the byte ranges of the k definitions lie one behind the other inside the text, and the bytes of each are its tokens' texts and what stands
   -- between them
@@ -62,9 +64,9 @@ formed_by text words room = go (door text words 0 room) (door_means text words 0
     go said (means_through l) e = l.formed
 
 -- every call in a mode on a row's text and words, with a kept list long enough
-abbrev pub OnRow : ℕ → TextRow → (List ℕ → List ℕ → List ℕ → File → List ℕ → List ℕ → List ℕ → Type 0) → Type 0
+abbrev pub OnRow : ℕ → TextRow → (List ℕ → List ℕ → List ℕ → Result FileRead FileError → List ℕ → List ℕ → List ℕ → Type 0) → Type 0
 OnRow mode row Then =
-    (kept definitions statements arguments : List ℕ) (r : File) (kept' definitions' statements' arguments' : List ℕ)
+    (kept definitions statements arguments : List ℕ) (r : Result FileRead FileError) (kept' definitions' statements' arguments' : List ℕ)
     → length (kept_of (words_from 0 row.cut)) ≤ length kept
     → FileCall mode (text_of row.cut) (words_from 0 row.cut) kept definitions statements arguments r kept' definitions' statements' arguments'
     → Then definitions statements arguments r definitions' statements' arguments'

@@ -1,5 +1,5 @@
 -- The promise of `read_file`: the answer by document 01 and the requests that are done, and what every lent thing holds afterwards.
-use Rattle.std.specs.Prelude.{ℕ, ◌/◌, ◌≡◌, true, cond, List, length, get_or, ltb}
+use Rattle.std.specs.Prelude.{ℕ, ◌/◌, ◌≡◌, true, cond, List, length, get_or, ltb, Result, Ok, Err}
 use Rattle.tokens.specs.Number as number
 use Rattle.tokens.specs.Number.{definition_width, statement_width, argument_width}
 use Rattle.tokens.specs.Token.{Token}
@@ -11,34 +11,44 @@ use Rattle.grammar.specs.FileReading.{Definition}
 use Rattle.grammar.specs.FileReader.{file_at}
 use Rattle.grammar.specs.FileRecords.{definition_records, file_statements, file_arguments, file_argument_records, file_statement_count}
 use Rattle.grammar.specs.Call.{ReadingNumber, acceptance, refusal_of, refusal, file_numbers, file_entrance, after_door, records_of, held_after}
-use Rattle.files.specs.declared.entry.File.{File}
-use Rattle.files.specs.declared.entry.File.TheVariants.{UnknownMode, NotWellFormed, KeptTooShort, Refused, DefinitionsTooSmall, StatementsTooSmall, ArgumentsTooSmall, Read}
+use Rattle.tokens.specs.Name.{type_numbers}
+use Rattle.tokens.specs.declared.door.Unready.{Unready}
+use Rattle.tokens.specs.declared.door.Unready.TheVariants as unready
+use Rattle.files.specs.declared.file.FileRead.{FileRead}
+use Rattle.files.specs.declared.entry.FileError.{FileError}
+use Rattle.files.specs.declared.entry.FileError.TheVariants.{UnknownMode, NotWellFormed, KeptTooShort, Refused, DefinitionsTooSmall, StatementsTooSmall, ArgumentsTooSmall}
 
 -- the seven numbers of each answer: number, cursor, definitions, statements, arguments; type and size
-abbrev pub values : File → List ℕ
-values UnknownMode = refusal number.UnknownMode 0
-values (NotWellFormed at) = refusal number.NotWellFormed at
-values (KeptTooShort count) = refusal number.KeptTooShort count
-values (Refused c q t size) = refusal_of c q (t, size)
-values (DefinitionsTooSmall need) = refusal number.DefinitionsTooSmall need
-values (StatementsTooSmall need) = refusal number.StatementsTooSmall need
-values (ArgumentsTooSmall need) = refusal number.ArgumentsTooSmall need
-values (Read cursor definitions statements arguments) = acceptance cursor definitions statements arguments
+abbrev pub values : Result FileRead FileError → List ℕ
+values (Err UnknownMode) = refusal number.UnknownMode 0
+values (Err (NotWellFormed at)) = refusal number.NotWellFormed at
+values (Err (KeptTooShort count)) = refusal number.KeptTooShort count
+values (Err (Refused f told)) = refusal_of f.0 f.1 (type_numbers told)
+values (Err (DefinitionsTooSmall need)) = refusal number.DefinitionsTooSmall need
+values (Err (StatementsTooSmall need)) = refusal number.StatementsTooSmall need
+values (Err (ArgumentsTooSmall need)) = refusal number.ArgumentsTooSmall need
+values (Ok file) = acceptance file.cursor file.definitions file.statements file.arguments
 
 -- the number, 0 accepted
-abbrev pub number_of : File → ℕ
+abbrev pub number_of : Result FileRead FileError → ℕ
 number_of r = get_or (values r) 0 0
 
 -- `Refused` is for the reading's own numbers, and no other answer has one of these: so the numbers tell the answer
-abbrev pub Own : File → Type 0
-Own UnknownMode = Unit {0}
-Own (NotWellFormed at) = Unit {0}
-Own (KeptTooShort count) = Unit {0}
-Own (Refused c q t size) = ReadingNumber c
-Own (DefinitionsTooSmall need) = Unit {0}
-Own (StatementsTooSmall need) = Unit {0}
-Own (ArgumentsTooSmall need) = Unit {0}
-Own (Read cursor definitions statements arguments) = Unit {0}
+abbrev pub Own : Result FileRead FileError → Type 0
+Own (Err UnknownMode) = Unit {0}
+Own (Err (NotWellFormed at)) = Unit {0}
+Own (Err (KeptTooShort count)) = Unit {0}
+Own (Err (Refused f told)) = ReadingNumber f.0
+Own (Err (DefinitionsTooSmall need)) = Unit {0}
+Own (Err (StatementsTooSmall need)) = Unit {0}
+Own (Err (ArgumentsTooSmall need)) = Unit {0}
+Own (Ok file) = Unit {0}
+
+-- what the call answers for a list that the door turns away. From start 0 it never gives the last one (`file_not_31`)
+abbrev pub at_door : Unready → FileError
+at_door (unready.NotWellFormed at) = NotWellFormed at
+at_door (unready.KeptTooShort count) = KeptTooShort count
+at_door (unready.StartOutside start) = NotWellFormed start
 
 -- the first of 1 to 22 in reading order of these kept tokens; for an accepted file 32, else 33, else 34, if a table's whole records are fewer than needed
 unfoldable pub after_reading : List Token → Answer (List Definition) → ℕ → ℕ → ℕ → List ℕ
@@ -60,7 +70,7 @@ file_answered mode text words kept definitions statements arguments =
 
 -- the promise: the answer r by its numbers, and the kept list and the three tables afterwards. Where the kept tokens stand in the text comes in for the definition
 -- records alone, for their last two words (request [7])
-pub record FileCall (mode : ℕ) (text words kept definitions statements arguments : List ℕ) (r : File) (kept' definitions' statements' arguments' : List ℕ) : Type 0 where
+pub record FileCall (mode : ℕ) (text words kept definitions statements arguments : List ℕ) (r : Result FileRead FileError) (kept' definitions' statements' arguments' : List ℕ) : Type 0 where
   pub answer : values r ≡ file_answered mode text words (length kept) (length definitions) (length statements) (length arguments)
   pub own : Own r
   pub list : kept' ≡ kept_after (file_entrance mode text words (length kept)).0 words kept

@@ -4,4 +4,5 @@
 mod entry;
 mod file;
 
-pub use entry::{File, read_file};
+pub use entry::{FileError, read_file};
+pub use file::FileRead;

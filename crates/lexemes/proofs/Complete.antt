@@ -10,6 +10,7 @@ use borrow.Author.Tests.{eqb-true, eq-eqb, lt-ltb}
 use lib.ListN.{length, get_or, take, drop, length-drop, take-append-drop}
 use lib.Dec.{eqb}
 use lib.Seq.{length-take-le, take-take, get_or-take, get_or-drop, drop-drop}
+use Rattle.std.specs.Prelude.{Ok, Err}
 use Rattle.tokens.specs.Byte.{bytes, same, is_hex}
 use Rattle.tokens.specs.Kind.{Eof, Whitespace, Comment, Include, Define, Pound, FreeStoragePointer, Ident, Literal, Num, Str}
 use Rattle.tokens.proofs.Laws.{or_split, drop_take}
@@ -18,10 +19,8 @@ use Rattle.lexemes.specs.Bytes.{is_space, is_digit, is_word_byte, is_quote, in_l
 use Rattle.lexemes.specs.Contexts.{is_code}
 use Rattle.lexemes.specs.Shapes.{Shape, space, line, block, string, define, include, mark, entry, literal, number, word, pointer}
 use Rattle.lexemes.specs.Reader as reader
-use Rattle.lexemes.specs.Reader.{run, closing, opened, slash, quoted, hashed, hash, digits, worded, mark_is, marked, lexeme_of}
+use Rattle.lexemes.specs.Reader.{run, closing, opened, slash, quoted, hashed, hash, digits, worded, mark_is, marked, lexeme_of, Look, found}
 use Rattle.lexemes.specs.declared.Context.{Context}
-use Rattle.lexemes.specs.declared.Found.{Found}
-use Rattle.lexemes.specs.declared.Found.TheVariants.{Is, Not}
 use Rattle.lexemes.proofs.RunLaws.{run_longest, run_exact, all_first}
 use Rattle.lexemes.proofs.SpellingLaws.{by_spelling}
 use Rattle.lexemes.proofs.Sound.{begins_front, begins_inner, begins_is, is_begins, begins_inside, closing_begins, by_cond}
@@ -62,16 +61,16 @@ opened_exact (b ∷ bs) (suc i) h e f = rw (f 0 (omega arith), opened_exact bs i
 -- ---- the branch that a first byte takes
 
 -- so many bytes of this kind are no more than what was found, and are what was found where they are as many
-abbrev pub AtLeast : ℕ → ℕ → Found → Type 0
-AtLeast k m (Is j n) = (m ≤ n) × (m ≡ n → k ≡ j)
-AtLeast k m (Not r) = ⊥
+abbrev pub AtLeast : ℕ → ℕ → Look → Type 0
+AtLeast k m (Ok f) = (m ≤ f.length) × (m ≡ f.length → k ≡ f.kind)
+AtLeast k m (Err r) = ⊥
 
 module _ (c : Context) (bs : List ℕ) where
   by_word : is_word_byte (first bs) ≡ true → lexeme_of c bs ≡ worded c bs
   unfolding lexeme_of
   by_word e = rw e
 
-  by_space : is_space (first bs) ≡ true → lexeme_of c bs ≡ Is Whitespace (run is_space bs)
+  by_space : is_space (first bs) ≡ true → lexeme_of c bs ≡ found Whitespace (run is_space bs)
   unfolding lexeme_of
   by_space e = rw (space_no_word (first bs) e, e)
 
@@ -242,7 +241,7 @@ module _ (c : Context) (bs : List ℕ) (m : ℕ) (inside : m ≤ length bs) wher
   alone : (b : ℕ) → take m bs ≡ b ∷ [] → (m ≡ 1) × (bs ≡ b ∷ drop 1 bs)
   alone b e = let l : m ≡ 1 = sym w_long ∙ ap length e in (l, sym (take-append-drop 1 bs) ∙ ap (λ (x : List ℕ). x ++ drop 1 bs) (subst (λ (n : ℕ). take n bs ≡ b ∷ []) l e))
 
-  at_mark : (b k : ℕ) → ((rest : List ℕ) → lexeme_of c (b ∷ rest) ≡ Is k 1) → 0 < k → take m bs ≡ b ∷ [] → AtLeast k m (lexeme_of c bs)
+  at_mark : (b k : ℕ) → ((rest : List ℕ) → lexeme_of c (b ∷ rest) ≡ found k 1) → 0 < k → take m bs ≡ b ∷ [] → AtLeast k m (lexeme_of c bs)
   at_mark b k f p e = let a = alone b e in rw (a.1, f (drop 1 bs)) (omega arith, λ _. refl)
 
   at_pound : 0 < Pound → take m bs ≡ 35 ∷ [] → AtLeast Pound m (lexeme_of c bs)

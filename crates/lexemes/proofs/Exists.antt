@@ -6,14 +6,14 @@ use mathlib.Core.Logic.{◌⊎◌, inl, inr, ⊎_elim}
 use native.Mathlib.Omega.{arith}
 use lib.ListN.{length, get_or, drop, length-drop}
 use Rattle.tokens.proofs.Laws.{lt_or_le}
+use Rattle.std.specs.Prelude.{Ok, Err}
 use Rattle.lexemes.specs.Contexts.{after}
 use Rattle.lexemes.specs.Texts.{token_words, IsToken}
+use Rattle.lexemes.specs.Errors.{error_number}
 use Rattle.lexemes.specs.Reads.{eof_at, Reads, ends, goes, Stops, here, later, Reading, Refusal}
-use Rattle.lexemes.specs.Reader.{step_at, whole, refused, Walked, more, walk, reading}
+use Rattle.lexemes.specs.Reader.{Step, step_at, whole, refused, Walked, more, walk, reading}
 use Rattle.lexemes.specs.declared.Context.{Context}
 use Rattle.lexemes.specs.declared.Context.TheVariants.{Out}
-use Rattle.lexemes.specs.declared.Step.{Step}
-use Rattle.lexemes.specs.declared.Step.TheVariants.{Token, Stop}
 use Rattle.lexemes.proofs.Exactly.{stop_bad, bad_stop, step_token, token_step}
 use Rattle.lexemes.proofs.WalkLaws.{StepIn, step_in, token_in, walk_end, walk_stop, walk_token}
 
@@ -43,7 +43,9 @@ module _ (text : List ℕ) where
   reads_walk (goes {t = t} h x r) = walk_on h x ∙ ap (more t) (reads_walk r)
 
   pub stops_walk : {c : Context} {s r q : ℕ} → Stops text c s r q → (walk c s 0 (drop s text)).end ≡ refused r q
-  stops_walk {c} (here {s = s} {r = r} h b) = ap (λ (w : Walked). w.end) (walk_stop c text s r h (bad_stop c s (drop s text) (left s h) b))
+  stops_walk {c} (here {s = s} h b) =
+      let (r, n, i) = bad_stop c s (drop s text) (left s h) b in
+      ap (λ (w : Walked). w.end) (walk_stop c text s r h i) ∙ ap (λ (x : ℕ). refused x s) (sym n)
   stops_walk (later h x p) = ap (λ (w : Walked). w.end) (walk_on h x) ∙ stops_walk p
 
   -- ---- and one there is
@@ -59,12 +61,12 @@ module _ (text : List ℕ) where
     where
       go : s < length text → (y : Step) → y ≡ step_at c s (drop s text) → StepIn s (length text) y
           → ((d : Context) (n : ℕ) → n ≤ length text → length text - n ≤ k → Found d n) → Found c s
-      go b (Token y a e x n) i j f =
-          let m = step_token c s (drop s text) (left s b) y a e x n i in
-          ⊎_elim (λ p. inl ((y ∷ a ∷ e ∷ x ∷ []) ∷ p.0, goes {ts = p.0} b m.2 (rw (← m.1) p.1)))
+      go b (Ok t) i j f =
+          let m = step_token c s (drop s text) (left s b) t.kind t.start t.end t.extra t.next i in
+          ⊎_elim (λ p. inl ((t.kind ∷ t.start ∷ t.end ∷ t.extra ∷ []) ∷ p.0, goes {ts = p.0} b m.2 (rw (← m.1) p.1)))
           (λ p. inr (p.0, p.1, later {r = p.0} {q = p.1} b m.2 (rw (← m.1) p.2)))
-          (f (after c y) n j.1 (omega arith))
-      go b (Stop r) i j f = inr (r, s, here b (stop_bad c s (drop s text) (left s b) r i))
+          (f (after c t.kind) t.next j.1 (omega arith))
+      go b (Err r) i j f = inr (error_number r, s, here b (stop_bad c s (drop s text) (left s b) r i))
 
   -- a text has a reading, or it is refused
   pub reading_or_refusal : ((ts : List (List ℕ)) × Reading text ts) ⊎ ((r : ℕ) × (q : ℕ) × Refusal text r q)

@@ -5,14 +5,13 @@ use mathlib.Core.List.{List, [], ◌∷◌}
 use native.Mathlib.Omega.{arith}
 use lib.ListN.{length}
 use lib.Seq.{length-take-le}
+use Rattle.std.specs.Prelude.{Ok, Err}
 use Rattle.tokens.specs.Byte.{bytes, same}
 use Rattle.tokens.specs.Kind.{Eof}
 use Rattle.spelling.specs.Spelling.{spelt, marks, value_of}
 use Rattle.lexemes.specs.Shapes.{Shape, space, line, block, string, define, include, mark, entry, literal, number, word, pointer}
-use Rattle.lexemes.specs.Reader.{lexeme_of}
+use Rattle.lexemes.specs.Reader.{Look, found, lexeme_of}
 use Rattle.lexemes.specs.declared.Context.{Context}
-use Rattle.lexemes.specs.declared.Found.{Found}
-use Rattle.lexemes.specs.declared.Found.TheVariants.{Is, Not}
 use Rattle.lexemes.proofs.Sound.{Good, begins_inside, sound}
 
 -- a mark is not empty
@@ -38,16 +37,16 @@ shape_some (word x h a b) = h
 shape_some (pointer x e) = omega (arith, ap length e)
 
 -- a lexeme has a byte or more, and at most `size`
-abbrev pub Fits : ℕ → Found → Type 0
-Fits size (Is k n) = (0 < n) × (n ≤ size)
-Fits size (Not r) = Unit {0}
+abbrev pub Fits : ℕ → Look → Type 0
+Fits size (Ok f) = (0 < f.length) × (f.length ≤ size)
+Fits size (Err r) = Unit {0}
 
-good_fits : (c : Context) (bs : List ℕ) (f : Found) → Good c bs f → Fits (length bs) f
-good_fits c bs (Is k n) g = let l = length-take-le n bs g.0 in let h = shape_some g.1 in (rw l at h, g.0)
-good_fits c bs (Not r) g = tt
+good_fits : (c : Context) (bs : List ℕ) (f : Look) → Good c bs f → Fits (length bs) f
+good_fits c bs (Ok f) g = let l = length-take-le f.length bs g.0 in let h = shape_some g.1 in (rw l at h, g.0)
+good_fits c bs (Err r) g = tt
 
 pub fits : (bs : List ℕ) → 0 < length bs → (c : Context) → Fits (length bs) (lexeme_of c bs)
 fits bs h c = good_fits c bs (lexeme_of c bs) (sound c bs h)
 
-pub lexeme_in : (c : Context) (bs : List ℕ) (k n : ℕ) → lexeme_of c bs ≡ Is k n → 0 < length bs → (0 < n) × (n ≤ length bs)
-lexeme_in c bs k n e h = subst (λ (f : Found). Fits (length bs) f) e (fits bs h c)
+pub lexeme_in : (c : Context) (bs : List ℕ) (k n : ℕ) → lexeme_of c bs ≡ found k n → 0 < length bs → (0 < n) × (n ≤ length bs)
+lexeme_in c bs k n e h = subst (λ (f : Look). Fits (length bs) f) e (fits bs h c)

@@ -9,6 +9,7 @@ use borrow.Author.Tests.{eqb-true, ltb-true}
 use lib.ListN.{length, get_or, take, drop, length-drop, take-append-drop}
 use lib.Dec.{eqb, ltb}
 use lib.Seq.{length-take-le, take-take, get_or-take, get_or-drop}
+use Rattle.std.specs.Prelude.{Ok, Err}
 use Rattle.tokens.specs.Byte.{bytes, same, is_hex}
 use Rattle.tokens.specs.Kind.{Eof, Whitespace, Comment, Str}
 use Rattle.tokens.proofs.Laws.{and_left, and_right, drop_take}
@@ -18,10 +19,8 @@ use Rattle.lexemes.specs.Bytes.{is_space, is_digit, is_word_byte, is_quote, in_l
 use Rattle.lexemes.specs.Contexts.{is_code}
 use Rattle.lexemes.specs.Shapes.{space, line, block, string, define, include, mark, entry, literal, number, word, pointer, Begins}
 use Rattle.lexemes.specs.Reader as reader
-use Rattle.lexemes.specs.Reader.{run, closing, opened, slash, quoted, hashed, hash, digits, worded, mark_is, marked, lexeme_of}
+use Rattle.lexemes.specs.Reader.{run, closing, opened, slash, quoted, hashed, hash, digits, worded, mark_is, marked, lexeme_of, Look, found}
 use Rattle.lexemes.specs.declared.Context.{Context}
-use Rattle.lexemes.specs.declared.Found.{Found}
-use Rattle.lexemes.specs.declared.Found.TheVariants.{Is, Not}
 use Rattle.lexemes.proofs.RunLaws.{run_all, run_inside, run_next, run_some}
 
 -- ---- bytes that come first
@@ -91,20 +90,20 @@ opened_open (b ∷ bs) i h = go (closing (b ∷ bs)) refl i h (opened_open bs)
 -- ---- each shape
 
 -- what is found has its shape
-abbrev pub Good : Context → List ℕ → Found → Type 0
-Good c bs (Is k n) = Begins c bs k n
-Good c bs (Not r) = Unit {0}
+abbrev pub Good : Context → List ℕ → Look → Type 0
+Good c bs (Ok f) = Begins c bs f.kind f.length
+Good c bs (Err r) = Unit {0}
 
-pub by_cond : (P : Found → Type 0) (t : Bool) {a b : Found} → (t ≡ true → P a) → (t ≡ false → P b) → P (cond t a b)
+pub by_cond : (P : Look → Type 0) (t : Bool) {a b : Look} → (t ≡ true → P a) → (t ≡ false → P b) → P (cond t a b)
 by_cond P true p q = p refl
 by_cond P false p q = q refl
 
 module _ (c : Context) where
-  spaces : (bs : List ℕ) → 0 < length bs → is_space (first bs) ≡ true → Good c bs (Is Whitespace (run is_space bs))
+  spaces : (bs : List ℕ) → 0 < length bs → is_space (first bs) ≡ true → Good c bs (found Whitespace (run is_space bs))
   spaces bs h e =
       (run_inside is_space bs, space (rw (length-take-le (run is_space bs) bs (run_inside is_space bs)) (run_some is_space bs h e)) (run_all is_space bs))
 
-  a_line : (rest : List ℕ) → Good c (47 ∷ 47 ∷ rest) (Is Comment (run in_line (47 ∷ 47 ∷ rest)))
+  a_line : (rest : List ℕ) → Good c (47 ∷ 47 ∷ rest) (found Comment (run in_line (47 ∷ 47 ∷ rest)))
   unfolding run in_line begins bytes same
   a_line rest = (run_inside in_line (47 ∷ 47 ∷ rest), line refl (run_all in_line (47 ∷ 47 ∷ rest)))
 
@@ -112,7 +111,7 @@ module _ (c : Context) where
   closed : (rest : List ℕ) → opened rest < length rest → begins (bytes "*/") (drop (opened rest) rest) ≡ true
   closed rest h = sym (closing_begins (drop (opened rest) rest)) ∙ opened_closes rest h
 
-  a_block : (rest : List ℕ) → opened rest < length rest → Good c (47 ∷ 42 ∷ rest) (Is Comment (opened rest + 4))
+  a_block : (rest : List ℕ) → opened rest < length rest → Good c (47 ∷ 42 ∷ rest) (found Comment (opened rest + 4))
   unfolding bytes begins same
   a_block rest h =
       (inside, block (rw l (omega arith)) (begins_front (bytes "/*") bs n (omega arith)) (rw (l, end) (begins_inner (bytes "*/") bs n (suc (suc (opened rest))) (omega arith) ∙ closed rest h)) not_before)
@@ -141,7 +140,7 @@ module _ (c : Context) where
           ∙ sym (closing_begins (drop i rest))
           ∙ opened_open rest i (omega arith)
 
-  a_string : (q : ℕ) (rest : List ℕ) → is_quote q ≡ true → 0 < q → get_or rest (run (in_quotes q) rest) 0 ≡ q → Good c (q ∷ rest) (Is Str (run (in_quotes q) rest + 2))
+  a_string : (q : ℕ) (rest : List ℕ) → is_quote q ≡ true → 0 < q → get_or rest (run (in_quotes q) rest) 0 ≡ q → Good c (q ∷ rest) (found Str (run (in_quotes q) rest + 2))
   a_string q rest quote p e =
       (inside, string (rw l (omega arith)) (rw (f) quote) (rw (l, f) last) (rw (l, f) between))
     where
@@ -236,7 +235,7 @@ module _ (c : Context) where
       (λ o. by_cond (Good c bs) (is_digit (first bs)) (λ d. a_number bs h o d) (λ d. a_word bs h o w d))
 
   -- a byte that is known by a test
-  at_byte : (b d : ℕ) (rest : List ℕ) (f : List ℕ → Found) → eqb b d ≡ true → Good c (d ∷ rest) (f (d ∷ rest)) → Good c (b ∷ rest) (f (b ∷ rest))
+  at_byte : (b d : ℕ) (rest : List ℕ) (f : List ℕ → Look) → eqb b d ≡ true → Good c (d ∷ rest) (f (d ∷ rest)) → Good c (b ∷ rest) (f (b ∷ rest))
   at_byte b d rest f e g = subst (λ (x : ℕ). Good c (x ∷ rest) (f (x ∷ rest))) (sym (eqb-true b d e)) g
 
   -- what begins with a slash
@@ -244,10 +243,10 @@ module _ (c : Context) where
   unfolding slash
   a_slash [] = tt
   a_slash (b ∷ rest) =
-      by_cond (Good c (47 ∷ b ∷ rest)) (eqb b (code "/")) (λ e. subst (λ (x : ℕ). Good c (47 ∷ x ∷ rest) (Is Comment (run in_line (47 ∷ x ∷ rest)))) (sym (eqb-true b 47 e)) (a_line rest))
+      by_cond (Good c (47 ∷ b ∷ rest)) (eqb b (code "/")) (λ e. subst (λ (x : ℕ). Good c (47 ∷ x ∷ rest) (found Comment (run in_line (47 ∷ x ∷ rest)))) (sym (eqb-true b 47 e)) (a_line rest))
       (λ _. by_cond (Good c (47 ∷ b ∷ rest)) (eqb b (code "*"))
       (λ e. by_cond (Good c (47 ∷ b ∷ rest)) (ltb (opened rest) (length rest))
-      (λ l. subst (λ (x : ℕ). Good c (47 ∷ x ∷ rest) (Is Comment (opened rest + 4))) (sym (eqb-true b 42 e)) (a_block rest (ltb-true (opened rest) (length rest) l)))
+      (λ l. subst (λ (x : ℕ). Good c (47 ∷ x ∷ rest) (found Comment (opened rest + 4))) (sym (eqb-true b 42 e)) (a_block rest (ltb-true (opened rest) (length rest) l)))
       (λ _. tt))
       (λ _. tt))
 
@@ -274,5 +273,5 @@ module _ (c : Context) where
       (λ _. by_cond G (eqb b (code "#")) (λ e. at_byte b 35 rest hash e (a_hash rest))
       (λ _. a_mark b rest))))))
     where
-      G : Found → Type 0
+      G : Look → Type 0
       G = Good c (b ∷ rest)

@@ -6,24 +6,23 @@ use mathlib.Core.List.{List, [], ◌∷◌}
 use native.Mathlib.Omega.{arith}
 use native.Mathlib.Numerals.{add-one}
 use lib.ListN.{length, get_or, take, drop, length-drop, drop_of_length-le}
-use lib.Seq.{drop-cons, drop-drop, get_or-drop}
+use lib.Seq.{drop-cons, drop-drop}
+use Rattle.std.specs.Prelude.{Ok, Err}
 use Rattle.lexemes.specs.Contexts.{after}
 use Rattle.lexemes.specs.Texts.{too_large}
+use Rattle.lexemes.specs.Errors.{error_number}
 use Rattle.lexemes.specs.Reads.{eof_at}
-use Rattle.lexemes.specs.Reader.{lexeme_of, step_of, step, step_at, whole, refused, more, onto, walk}
+use Rattle.lexemes.specs.Reader.{Look, lexeme_of, Step, token, step_of, step, step_at, whole, refused, more, onto, walk}
 use Rattle.lexemes.specs.declared.Context.{Context}
-use Rattle.lexemes.specs.declared.Found.{Found}
-use Rattle.lexemes.specs.declared.Found.TheVariants.{Is, Not}
-use Rattle.lexemes.specs.declared.Step.{Step}
-use Rattle.lexemes.specs.declared.Step.TheVariants.{Token, Stop}
-use Rattle.lexemes.proofs.FoundLaws.{Fits, fits, lexeme_in}
+use Rattle.lexemes.specs.declared.LexemeError.{LexemeError}
+use Rattle.lexemes.proofs.FoundLaws.{Fits, fits}
 
 -- ---- a step lies in the text
 
 -- a token's lexeme begins at s, is not empty and ends in the text
 abbrev pub StepIn : ℕ → ℕ → Step → Type 0
-StepIn s size (Token k a e x n) = (s < n) × (n ≤ size)
-StepIn s size (Stop r) = Unit {0}
+StepIn s size (Ok t) = (s < t.next) × (t.next ≤ size)
+StepIn s size (Err r) = Unit {0}
 
 -- both ways of a test
 either : (P : Step → Type 0) (t : Bool) {a b : Step} → P a → P b → P (cond t a b)
@@ -34,9 +33,9 @@ lexeme_step_in : (c : Context) (s e k : ℕ) (w : List ℕ) (next size : ℕ) �
 unfolding step_of
 lexeme_step_in c s e k w next size h l = either (StepIn s size) (too_large k w) tt (h, l)
 
-found_step_in : (c : Context) (s : ℕ) (bs : List ℕ) (f : Found) (size : ℕ) → Fits (length bs) f → s + length bs ≤ size → StepIn s size (step c s bs f)
-found_step_in c s bs (Is k n) size f l = lexeme_step_in c s (s + n) k (take n bs) (get_or bs n 0) size (omega arith) (omega arith)
-found_step_in c s bs (Not r) size f l = tt
+found_step_in : (c : Context) (s : ℕ) (bs : List ℕ) (f : Look) (size : ℕ) → Fits (length bs) f → s + length bs ≤ size → StepIn s size (step c s bs f)
+found_step_in c s bs (Ok l) size f h = lexeme_step_in c s (s + l.length) l.kind (take l.length bs) (get_or bs l.length 0) size (omega arith) (omega arith)
+found_step_in c s bs (Err r) size f h = tt
 
 pub step_in : (c : Context) (s : ℕ) (t : List ℕ) → s < length t → StepIn s (length t) (step_at c s (drop s t))
 unfolding step_at
@@ -45,25 +44,8 @@ step_in c s t h =
     found_step_in c s (drop s t) (lexeme_of c (drop s t)) (length t) (fits (drop s t) (omega arith) c) (omega arith)
 
 -- the same of the token that it is
-pub token_in : (c : Context) (s : ℕ) (t : List ℕ) {k a e x n : ℕ} → s < length t → Token k a e x n ≡ step_at c s (drop s t) → (s < n) × (n ≤ length t)
+pub token_in : (c : Context) (s : ℕ) (t : List ℕ) {k a e x n : ℕ} → s < length t → token k a e x n ≡ step_at c s (drop s t) → (s < n) × (n ≤ length t)
 token_in c s t h i = subst (λ (x : Step). StepIn s (length t) x) (sym i) (step_in c s t h)
-
--- ---- the lexeme at a place, and its step
-
-pub lexeme_in_at : (c : Context) (t : List ℕ) (s k n : ℕ) → s < length t → Is k n ≡ lexeme_of c (drop s t) → (0 < n) × (s + n ≤ length t)
-lexeme_in_at c t s k n h e =
-    let d = length-drop s t in
-    let f = lexeme_in c (drop s t) k n (sym e) (omega arith) in
-    (f.0, omega arith)
-
-pub step_is : (c : Context) (t : List ℕ) (s k n : ℕ) → Is k n ≡ lexeme_of c (drop s t)
-    → step_of c s (s + n) k (take (s + n - s) (drop s t)) (get_or t (s + n) 0) ≡ step_at c s (drop s t)
-unfolding step_at
-step_is c t s k n e = let z : s + n - s ≡ n = omega arith in rw (← e, z, get_or-drop s t n 0)
-
-pub stop_is : (c : Context) (t : List ℕ) (s r : ℕ) → Not r ≡ lexeme_of c (drop s t) → Stop r ≡ step_at c s (drop s t)
-unfolding step_at
-stop_is c t s r e = rw (← e)
 
 -- ---- the walk
 
@@ -83,10 +65,10 @@ module _ (c : Context) (t : List ℕ) (s : ℕ) where
   unfolding walk
   one h = let d : drop s t ≡ get_or t s 0 ∷ drop (s + 1) t = rw (add-one s) (drop-cons t s 0 h) in rw d
 
-  pub walk_stop : (r : ℕ) → s < length t → Stop r ≡ step_at c s (drop s t) → walk c s 0 (drop s t) ≡ record { tokens = []; end = refused r s }
+  pub walk_stop : (r : LexemeError) → s < length t → Err r ≡ step_at c s (drop s t) → walk c s 0 (drop s t) ≡ record { tokens = []; end = refused (error_number r) s }
   walk_stop r h e = one h ∙ rw (← e)
 
-  pub walk_token : (k a e x n : ℕ) → s < length t → Token k a e x n ≡ step_at c s (drop s t) → s < n → n ≤ length t
+  pub walk_token : (k a e x n : ℕ) → s < length t → token k a e x n ≡ step_at c s (drop s t) → s < n → n ≤ length t
       → walk c s 0 (drop s t) ≡ more (k ∷ a ∷ e ∷ x ∷ []) (walk (after c k) n 0 (drop n t))
   walk_token k a e x n h i l m =
       let d = length-drop (s + 1) t in

@@ -5,6 +5,7 @@ pub mod Contexts
 pub mod Shapes
 pub mod Words
 pub mod Texts
+pub mod Errors
 pub mod Reads
 pub mod Right
 pub mod Braces

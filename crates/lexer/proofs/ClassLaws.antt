@@ -1,46 +1,44 @@
 -- Runs of a class and open comments, one byte at a time. Assumes nothing.
-use Prim.Native.Nat.{ℕ, suc, ◌+◌, ◌≤◌, ◌<◌}
+use Prim.Native.Nat.{ℕ, zero, suc, ◌+◌, ◌<◌}
 use Prim.Native.Char.{code}
-use mathlib.Core.Path.{◌≡◌, ◌∙◌}
+use mathlib.Core.Path.{◌≡◌, refl, ap}
 use mathlib.Core.Bool.{Bool, true, false, ◌&&◌}
-use mathlib.Core.List.{List}
-use mathlib.Core.Logic.{⊎_elim}
+use mathlib.Core.List.{List, [], ◌∷◌}
 use native.Mathlib.Omega.{arith}
 use native.Mathlib.Numerals.{add-one}
 use lib.Dec.{eqb}
-use lib.ListN.{length, get_or, drop, drop_of_length-le, get_or-eq_default}
+use lib.ListN.{length, get_or, drop}
 use lib.Seq.{drop-cons, get_or-drop}
-use Rattle.tokens.proofs.Laws.{lt_or_le}
+use Rattle.std.specs.Prelude.{Option, Some, None, MatchOption, unwrap_or}
 use Rattle.lexemes.specs.Reader.{run, closing, opened}
 
--- the first of what is left is what stands at the place
-pub first_at : (t : List ℕ) (i : ℕ) → get_or (drop i t) 0 0 ≡ get_or t i 0
-first_at t i = let z : i + 0 ≡ i = omega arith in rw (get_or-drop i t 0 0, z)
-
--- a byte that is not 0 was read inside
-pub read_inside : (t : List ℕ) (i b : ℕ) → b ≡ get_or t i 0 → 0 < b → i < length t
-read_inside t i b e h = ⊎_elim (λ (l : i < length t). l) (λ (l : length t ≤ i). absurd (no (e ∙ get_or-eq_default t 0 l))) (lt_or_le i (length t))
-  where
-    no : b ≡ 0 → ⊥
-    no z = omega arith
-
-module _ (class : ℕ → Bool) (t : List ℕ) (i : ℕ) where
-  pub run_more : i < length t → class (get_or t i 0) ≡ true → run class (drop i t) ≡ suc (run class (drop (i + 1) t))
+-- a run goes on to the end, or to the first byte that is none of the class
+module _ (class : ℕ → Bool) where
+  run_whole : (bs : List ℕ) → ((k : ℕ) → k < length bs → class (get_or bs k 0) ≡ true) → length bs ≡ run class bs
   unfolding run
-  run_more h e = rw (add-one i, drop-cons t i 0 h, e)
+  run_whole [] h = refl
+  run_whole (b ∷ bs) h = rw (h 0 (omega arith)) (ap suc (run_whole bs (λ k l. h (suc k) (omega arith))))
 
-  pub run_stop : i < length t → class (get_or t i 0) ≡ false → run class (drop i t) ≡ 0
+  run_until : (bs : List ℕ) (i : ℕ) → i < length bs → ((k : ℕ) → k < i → class (get_or bs k 0) ≡ true) → class (get_or bs i 0) ≡ false → i ≡ run class bs
   unfolding run
-  run_stop h e = rw (drop-cons t i 0 h, e)
+  run_until [] i l h e = absurd (omega arith)
+  run_until (b ∷ bs) zero l h e = rw e
+  run_until (b ∷ bs) (suc i) l h e = rw (h 0 (omega arith)) (ap suc (run_until bs i (omega arith) (λ k m. h (suc k) (omega arith)) e))
 
-  pub run_end : length t ≤ i → run class (drop i t) ≡ 0
-  unfolding run
-  run_end h = rw (drop_of_length-le t h)
+  -- the place of the first byte that is none of it, if there is one
+  abbrev pub RunsTo : List ℕ → Option ℕ → Type 0
+  RunsTo bs r =
+      MatchOption r ((k : ℕ) → k < length bs → class (get_or bs k 0) ≡ true)
+      (λ i. (i < length bs) × ((k : ℕ) → k < i → class (get_or bs k 0) ≡ true) × (class (get_or bs i 0) ≡ false))
+
+  pub run_found : (bs : List ℕ) (r : Option ℕ) → RunsTo bs r → unwrap_or r (length bs) ≡ run class bs
+  run_found bs None h = run_whole bs h
+  run_found bs (Some i) h = run_until bs i h.0 h.1 h.2
 
 module _ (t : List ℕ) (i : ℕ) where
-  pub closes_is : {a b : ℕ} → a ≡ get_or t i 0 → b ≡ get_or t (i + 1) 0 → (eqb a (code "*") && eqb b (code "/")) ≡ closing (drop i t)
+  pub closes_is : closing (drop i t) ≡ (eqb (get_or t i 0) (code "*") && eqb (get_or t (i + 1) 0) (code "/"))
   unfolding closing
-  closes_is p q = rw (first_at t i, get_or-drop i t 1 0, p, q)
+  closes_is = let z : i + 0 ≡ i = omega arith in rw (get_or-drop i t 0 0, get_or-drop i t 1 0, z)
 
   pub open_more : i < length t → closing (drop i t) ≡ false → opened (drop i t) ≡ suc (opened (drop (i + 1) t))
   unfolding opened
@@ -49,7 +47,3 @@ module _ (t : List ℕ) (i : ℕ) where
   pub open_stop : i < length t → closing (drop i t) ≡ true → opened (drop i t) ≡ 0
   unfolding opened
   open_stop h e = let f = rw (drop-cons t i 0 h) at e in rw (drop-cons t i 0 h, f)
-
-  pub open_end : length t ≤ i → opened (drop i t) ≡ 0
-  unfolding opened
-  open_end h = rw (drop_of_length-le t h)

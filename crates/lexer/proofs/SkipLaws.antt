@@ -1,34 +1,33 @@
 -- Counting needs of a token the context behind it, and of all words only `table` changes that. Assumes nothing.
 use Prim.Native.Nat.{ℕ, ◌≤◌, ◌<◌}
 use Prim.Native.Char.{code}
-use mathlib.Core.Path.{◌≡◌, refl, sym, subst, ◌∙◌}
+use mathlib.Core.Path.{◌≡◌, refl, sym, subst}
 use mathlib.Core.Bool.{Bool, true, false, cond, not, ◌&&◌, and-false, false≢true}
 use mathlib.Core.List.{List, [], ◌∷◌}
 use native.Mathlib.Omega.{arith}
 use borrow.Author.Tests.{ne_eqb, eqb-true, not-true}
 use lib.Dec.{eqb, ltb}
-use lib.ListN.{length, get_or, drop}
+use lib.ListN.{length, drop}
+use Rattle.std.specs.Prelude.{Result, Ok, Err}
 use Rattle.tokens.specs.Byte.{bytes, same}
 use Rattle.tokens.specs.Kind.{CodeTable, OpenBrace, Ident, Num, PrimitiveType}
-use Rattle.tokens.specs.Number.{TooLarge}
 use Rattle.tokens.specs.Name.{reserved}
-use Rattle.tokens.specs.Token.{part}
 use Rattle.tokens.proofs.NameLaws.{same_equal}
 use Rattle.spelling.specs.Spelling.{spelt, keywords, value_of, no_opcode, opcode_of, kind_outside}
 use Rattle.lexemes.specs.Bytes.{begins}
+use Rattle.lexemes.specs.Errors.{error_number}
 use Rattle.lexemes.specs.Contexts.{is_code, is_body, after}
 use Rattle.lexemes.specs.Words.{Told, plain, in_braces, by_place, word_of}
 use Rattle.lexemes.specs.Texts.{decimal, too_large, told}
-use Rattle.lexemes.specs.Reader.{step_of, step_at, refused, more, walk}
+use Rattle.lexemes.specs.Reader.{Step, step_of, step_at, refused, more, walk}
 use Rattle.lexemes.specs.declared.Context.{Context}
 use Rattle.lexemes.specs.declared.Context.TheVariants.{Out, Wait, Body, Code}
-use Rattle.lexemes.specs.declared.Step.{Step}
-use Rattle.lexemes.specs.declared.Step.TheVariants.{Token, Stop}
+use Rattle.lexemes.specs.declared.LexemeError.{LexemeError}
+use Rattle.lexemes.specs.declared.LexemeError.TheVariants.{TooLarge}
 use Rattle.lexemes.proofs.SpellingLaws.{EachSpelt, by_spelling, passing, given_passes}
 use Rattle.lexemes.proofs.WalkLaws.{token_in, walk_token, walk_stop}
 use Rattle.lexer.specs.Counts.{skip_of}
 use Rattle.lexer.specs.declared.skip.Skip.{Skip}
-use Rattle.lexer.specs.declared.skip.Skip.TheVariants.{To, Halt}
 
 -- ---- the kind of a word outside braces
 
@@ -94,22 +93,16 @@ module _ (w : List ℕ) (next : ℕ) where
   out_other h =
       either (Behind Out Out) (eqb next (code ":")) refl (either (Behind Out Out) (eqb next (code "(") && begins (bytes "__") w) refl (rw (no_table w h, no_brace w)))
 
-  pub wait_word : Behind Wait Wait (word_of Wait w next)
-  unfolding after word_of is_code is_body by_place
-  wait_word =
-      either (Behind Wait Wait) (eqb next (code ":")) refl (either (Behind Wait Wait) (eqb next (code "(") && begins (bytes "__") w) refl (rw (no_brace w)))
-
-  pub body_word : Behind Body Body (word_of Body w next)
-  unfolding after word_of is_code is_body by_place in_braces
-  body_word =
-      either (Behind Body Body) (eqb next (code ":")) refl
-      (either (Behind Body Body) (eqb next (code "(") && begins (bytes "__") w) refl (either (Behind Body Body) (ltb (opcode_of w) no_opcode) refl refl))
-
-  pub code_word : Behind Code Code (word_of Code w next)
-  unfolding after word_of is_code
-  code_word = refl
-
--- ---- a lexeme from byte s to byte e
+-- inside braces, and behind `table`, no word changes it
+pub other_word : (c : Context) (w : List ℕ) (next : ℕ) → (c ≡ Out → ⊥) → Behind c c (word_of c w next)
+unfolding after word_of is_code is_body by_place in_braces
+other_word Out w next h = absurd (h refl)
+other_word Wait w next h =
+    either (Behind Wait Wait) (eqb next (code ":")) refl (either (Behind Wait Wait) (eqb next (code "(") && begins (bytes "__") w) refl (rw (no_brace w)))
+other_word Body w next h =
+    either (Behind Body Body) (eqb next (code ":")) refl
+    (either (Behind Body Body) (eqb next (code "(") && begins (bytes "__") w) refl (either (Behind Body Body) (ltb (opcode_of w) no_opcode) refl refl))
+other_word Code w next h = refl
 
 -- a lexeme that is no word keeps its kind
 kind_kept : (k v : ℕ) → k ≡ (cond {A = Told} (eqb k Num) (Num, v) (plain k)).0
@@ -119,21 +112,27 @@ kind_kept k v = go (eqb k Num) (eqb-true k Num)
     go true e = e refl
     go false e = refl
 
-module _ (c : Context) (t : List ℕ) (s e k : ℕ) where
-  abbrev Skipped : Skip
-  Skipped = skip_of c (step_of c s e k (part t s e) (get_or t e 0))
+-- ---- a lexeme w from byte s to byte e
 
-  pub skip_word : (d : Context) → k ≡ Ident → Behind c d (word_of c (part t s e) (get_or t e 0)) → To d e ≡ Skipped
+module _ (c : Context) (s e k : ℕ) (w : List ℕ) (next : ℕ) where
+  abbrev Skipped : Result Skip LexemeError
+  Skipped = skip_of c (step_of c s e k w next)
+
+  -- on to byte e, in this context
+  abbrev To : Context → Result Skip LexemeError
+  To d = Ok (record { context = d; next = e })
+
+  pub skip_word : (d : Context) → k ≡ Ident → Behind c d (word_of c w next) → To d ≡ Skipped
   unfolding skip_of step_of too_large told
   skip_word d h i = rw (h, i)
 
-  pub skip_large : too_large k (part t s e) ≡ true → Halt TooLarge ≡ Skipped
+  pub skip_large : too_large k w ≡ true → Err TooLarge ≡ Skipped
   unfolding skip_of step_of
   skip_large l = rw l
 
-  pub skip_plain : (d : Context) → (k ≡ Ident → ⊥) → too_large k (part t s e) ≡ false → d ≡ after c k → To d e ≡ Skipped
+  pub skip_plain : (d : Context) → (k ≡ Ident → ⊥) → too_large k w ≡ false → d ≡ after c k → To d ≡ Skipped
   unfolding skip_of step_of told
-  skip_plain d h l i = rw (l, ne_eqb k Ident h, ← kind_kept k (decimal (part t s e)), i)
+  skip_plain d h l i = rw (l, ne_eqb k Ident h, ← kind_kept k (decimal w), i)
 
 -- ---- the walk
 
@@ -142,23 +141,22 @@ module _ (c : Context) (t : List ℕ) (s : ℕ) where
   abbrev pub Passes : Context → ℕ → Type 0
   Passes d n = (s < n) × (n ≤ length t) × ((w : List ℕ) × (walk c s 0 (drop s t) ≡ more w (walk d n 0 (drop n t))))
 
-  module _ (h : s < length t) (x : Skip) (is : x ≡ skip_of c (step_at c s (drop s t))) where
-    pub skip_to : (d : Context) (n : ℕ) → x ≡ To d n → Passes d n
+  module _ (h : s < length t) where
+    pub skip_to : (x : Skip) → Ok x ≡ skip_of c (step_at c s (drop s t)) → Passes x.context x.next
     unfolding skip_of
-    skip_to d n i = go (step_at c s (drop s t)) refl (sym i ∙ is)
+    skip_to x is = go (step_at c s (drop s t)) refl is
       where
-        go : (y : Step) → y ≡ step_at c s (drop s t) → To d n ≡ skip_of c y → Passes d n
-        go (Token k a e x m) q j =
-            let b = token_in c s t {k = k} {a = a} {e = e} {x = x} {n = m} h q in
-            let f : d ≡ after c k = cc in
-            let g : n ≡ m = cc in
-            rw (f, g) (b.0, b.1, (k ∷ a ∷ e ∷ x ∷ [], walk_token c t s k a e x m h q b.0 b.1))
-        go (Stop r) q j = let z : ◌≡◌ {A = ℕ} 0 1 = cc in absurd (omega arith)
+        go : (y : Step) → y ≡ step_at c s (drop s t) → Ok x ≡ skip_of c y → Passes x.context x.next
+        go (Ok u) q j =
+            let b = token_in c s t {k = u.kind} {a = u.start} {e = u.end} {x = u.extra} {n = u.next} h q in
+            let g : x ≡ record { context = after c u.kind; next = u.next } = cc in
+            rw g (b.0, b.1, (u.kind ∷ u.start ∷ u.end ∷ u.extra ∷ [], walk_token c t s u.kind u.start u.end u.extra u.next h q b.0 b.1))
+        go (Err r) q j = let z : ◌≡◌ {A = ℕ} 0 1 = cc in absurd (omega arith)
 
-    pub skip_halt : (r : ℕ) → x ≡ Halt r → walk c s 0 (drop s t) ≡ record { tokens = []; end = refused r s }
+    pub skip_halt : (r : LexemeError) → Err r ≡ skip_of c (step_at c s (drop s t)) → walk c s 0 (drop s t) ≡ record { tokens = []; end = refused (error_number r) s }
     unfolding skip_of
-    skip_halt r i = go (step_at c s (drop s t)) refl (sym i ∙ is)
+    skip_halt r is = go (step_at c s (drop s t)) refl is
       where
-        go : (y : Step) → y ≡ step_at c s (drop s t) → Halt r ≡ skip_of c y → walk c s 0 (drop s t) ≡ record { tokens = []; end = refused r s }
-        go (Token k a e x m) q j = let z : ◌≡◌ {A = ℕ} 0 1 = cc in absurd (omega arith)
-        go (Stop m) q j = let g : r ≡ m = cc in rw g (walk_stop c t s m h q)
+        go : (y : Step) → y ≡ step_at c s (drop s t) → Err r ≡ skip_of c y → walk c s 0 (drop s t) ≡ record { tokens = []; end = refused (error_number r) s }
+        go (Ok u) q j = let z : ◌≡◌ {A = ℕ} 0 1 = cc in absurd (omega arith)
+        go (Err m) q j = let g : r ≡ m = cc in rw g (walk_stop c t s m h q)

@@ -1,27 +1,28 @@
 -- The token that a lexeme is, by what the code has found of it. Assumes nothing.
-use Prim.Native.Nat.{ℕ, ◌+◌, ◌-◌, ◌*◌, ◌≤◌, ◌<◌, min}
+use Prim.Native.Nat.{ℕ, ◌+◌, ◌-◌, ◌*◌, ◌≤◌, ◌<◌}
 use Prim.Native.Char.{code}
-use mathlib.Core.Path.{◌≡◌}
-use mathlib.Core.Bool.{true, false}
+use mathlib.Core.Path.{◌≡◌, sym}
+use mathlib.Core.Bool.{Bool, true, false, not, false≢true}
 use mathlib.Core.List.{List, [], ◌∷◌}
-use mathlib.Core.Logic.{⊎_elim}
 use native.Mathlib.Omega.{arith}
 use native.Mathlib.Numerals.{add-one}
 use native.Mathlib.Nat.{add-zero, sub-zero}
-use borrow.Author.Tests.{eq-eqb, ne_eqb, lt-ltb, le-ltb, le-leb, lt-leb}
-use lib.Dec.{ltb, leb}
-use lib.ListN.{length, get_or, drop, length-drop, drop_of_length-le}
-use lib.Seq.{drop-cons, length-take-le}
-use Rattle.tokens.specs.Kind.{Ident, Literal, Num}
-use Rattle.tokens.specs.Number.{TooLarge, longest_literal, most_number}
-use Rattle.tokens.specs.Token.{part}
-use Rattle.tokens.proofs.Laws.{lt_or_le}
+use borrow.Author.Tests.{ne_eqb, lt-ltb, le-ltb}
+use lib.Dec.{ltb}
+use lib.ListN.{length, get_or, take, drop, drop_of_length-le}
+use lib.Seq.{drop-cons, get_or-drop}
+use Rattle.std.specs.Prelude.{Option, Some, None, Ok, Err, MatchOption, is_some}
+use Rattle.tokens.specs.Kind.{Ident, Num}
+use Rattle.tokens.specs.Number.{most_number}
+use Rattle.lexemes.specs.Bytes.{first}
 use Rattle.lexemes.specs.Words.{Told, word_of}
 use Rattle.lexemes.specs.Texts.{decimal_after, decimal, too_large, told, quotes}
-use Rattle.lexemes.specs.Reader.{step_of}
+use Rattle.lexemes.specs.Reader.{lexeme_of, Step, token, step_of, step_at}
 use Rattle.lexemes.specs.declared.Context.{Context}
-use Rattle.lexemes.specs.declared.Step.{Step}
-use Rattle.lexemes.specs.declared.Step.TheVariants.{Token, Stop}
+use Rattle.lexemes.specs.declared.Found.{Found}
+use Rattle.lexemes.specs.declared.LexemeError.{LexemeError}
+use Rattle.lexemes.specs.declared.LexemeError.TheVariants.{TooLarge}
+use Rattle.lexemes.proofs.FoundLaws.{lexeme_in}
 
 -- ---- decimal numbers
 
@@ -38,64 +39,52 @@ unfolding decimal_after
 decimal_grows v [] = omega arith
 decimal_grows v (d ∷ ds) = let h = decimal_grows (v * 10 + (d - code "0")) ds in omega arith
 
--- a number that is cut above the largest one is as large
-cut : (v m : ℕ) → m ≡ min v (most_number + 1) → leb (most_number + 1) m ≡ ltb most_number v
-cut v m h =
-    ⊎_elim
-    (λ (l : most_number < v). rw (lt-ltb most_number v l, le-leb (most_number + 1) m (omega arith)))
-    (λ (l : v ≤ most_number). rw (le-ltb most_number v l, lt-leb (most_number + 1) m (omega arith)))
-    (lt_or_le most_number v)
+-- that there is no such number says that it is too large
+pub none_large : (r : Option ℕ) (b : Bool) (n : ℕ) → MatchOption r (most_number < n) (λ v. (v ≤ most_number) × (v ≡ n)) → is_some r ≡ not b → b ≡ ltb most_number n
+none_large None true n l e = rw (lt-ltb most_number n l)
+none_large None false n l e = absurd (false≢true e)
+none_large (Some v) true n h e = absurd (false≢true (sym e))
+none_large (Some v) false n h e = rw (le-ltb most_number n (omega (arith, h.0, h.1)))
 
--- ---- a lexeme from byte s to byte e
+-- ---- the lexeme that was found, and what is left behind it
 
-module _ (t : List ℕ) (s e : ℕ) where
-  -- its bytes, and the byte behind it
-  abbrev Bytes : List ℕ
-  Bytes = part t s e
+module _ (c : Context) (s : ℕ) (bs : List ℕ) where
+  pub stop_found : (r : LexemeError) → Err r ≡ lexeme_of c bs → Err r ≡ step_at c s bs
+  unfolding step_at
+  stop_found r e = rw (← e)
 
-  abbrev Next : ℕ
-  Next = get_or t e 0
+  module _ (f : Found) (e : Ok f ≡ lexeme_of c bs) where
+    pub found_in : 0 < length bs → (0 < f.length) × (f.length ≤ length bs)
+    found_in h = lexeme_in c bs f.kind f.length (sym e) h
 
-  -- ---- too large
+    pub step_found : (w behind : List ℕ) → w ≡ take f.length bs → length w ≡ f.length → behind ≡ drop f.length bs → step_of c s (s + length w) f.kind w (first behind) ≡ step_at c s bs
+    unfolding step_at
+    step_found w behind i l j = let z : f.length + 0 ≡ f.length = omega arith in rw (l, i, j, get_or-drop f.length bs 0 0, z, ← e)
+
+-- ---- the lexeme w, which begins at byte s, with the bytes `behind` behind it
+
+module _ (c : Context) (s : ℕ) (w behind : List ℕ) where
+  abbrev End : ℕ
+  End = s + length w
+
+  pub step_word : (k x : ℕ) {r : Step} → ◌≡◌ {A = Told} (k, x) (word_of c w (first behind)) → r ≡ token k s End x End → r ≡ step_of c s End Ident w (first behind)
+  unfolding step_of too_large told quotes
+  step_word k x i j = rw (← i, add-zero, sub-zero, j)
+
+  pub step_num_large : most_number < decimal w → Err TooLarge ≡ step_of c s End Num w (first behind)
+  unfolding step_of too_large
+  step_num_large l = rw (lt-ltb most_number (decimal w) l)
+
+  pub step_num : (v : ℕ) {r : Step} → v ≤ most_number → v ≡ decimal w → r ≡ token Num s End v End → r ≡ step_of c s End Num w (first behind)
+  unfolding step_of too_large told quotes
+  step_num v l i j = rw (j, i, le-ltb most_number (decimal w) (omega arith), add-zero, sub-zero)
 
   module _ (k : ℕ) where
-    pub large_num : (m : ℕ) → k ≡ Num → m ≡ min (decimal Bytes) (most_number + 1) → leb (most_number + 1) m ≡ too_large k Bytes
-    unfolding too_large
-    large_num m h i = rw (eq-eqb k Num h) (cut (decimal Bytes) m i)
+    pub step_large : too_large k w ≡ true → Err TooLarge ≡ step_of c s End k w (first behind)
+    unfolding step_of
+    step_large h = rw h
 
-    module _ (h : k ≡ Num → ⊥) where
-      pub large_literal : k ≡ Literal → s ≤ e → e ≤ length t → ltb longest_literal (e - s) ≡ too_large k Bytes
-      unfolding too_large
-      large_literal i l m =
-          let n : length Bytes ≡ e - s = length-take-le (e - s) (drop s t) (rw (length-drop s t) (omega arith)) in
-          rw (ne_eqb k Num h, eq-eqb k Literal i, n)
-
-      pub large_none : (k ≡ Literal → ⊥) → false ≡ too_large k Bytes
-      unfolding too_large
-      large_none i = rw (ne_eqb k Num h, ne_eqb k Literal i)
-
-  -- ---- its token
-
-  module _ (c : Context) where
-    pub step_word : (k x : ℕ) {r : Step} → ◌≡◌ {A = Told} (k, x) (word_of c Bytes Next) → r ≡ Token k s e x e → r ≡ step_of c s e Ident Bytes Next
-    unfolding step_of too_large told quotes
-    step_word k x i j = rw (← i, add-zero, sub-zero, j)
-
-    module _ (m : ℕ) (h : m ≡ min (decimal Bytes) (most_number + 1)) where
-      pub step_num_large : most_number + 1 ≤ m → Stop TooLarge ≡ step_of c s e Num Bytes Next
-      unfolding step_of too_large
-      step_num_large l = rw (lt-ltb most_number (decimal Bytes) (omega arith))
-
-      pub step_num : {r : Step} → m < most_number + 1 → r ≡ Token Num s e m e → r ≡ step_of c s e Num Bytes Next
-      unfolding step_of too_large told quotes
-      step_num l j = let i : m ≡ decimal Bytes = omega arith in rw (j, i, le-ltb most_number (decimal Bytes) (omega arith), add-zero, sub-zero)
-
-    module _ (k : ℕ) where
-      pub step_large : too_large k Bytes ≡ true → Stop TooLarge ≡ step_of c s e k Bytes Next
-      unfolding step_of
-      step_large h = rw h
-
-      pub step_plain : (q : ℕ) {r : Step} → (k ≡ Ident → ⊥) → (k ≡ Num → ⊥) → too_large k Bytes ≡ false → q ≡ quotes k → r ≡ Token k (s + q) (e - q) 0 e
-          → r ≡ step_of c s e k Bytes Next
-      unfolding step_of told
-      step_plain q h i l j m = rw (m, l, j, ne_eqb k Ident h, ne_eqb k Num i)
+    pub step_plain : (q : ℕ) {r : Step} → (k ≡ Ident → ⊥) → (k ≡ Num → ⊥) → too_large k w ≡ false → q ≡ quotes k → r ≡ token k (s + q) (End - q) 0 End
+        → r ≡ step_of c s End k w (first behind)
+    unfolding step_of told
+    step_plain q h i l j m = rw (m, l, j, ne_eqb k Ident h, ne_eqb k Num i)

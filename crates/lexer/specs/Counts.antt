@@ -1,21 +1,22 @@
 -- Inner: what the pass that counts keeps of a token, and what it answers.
-use Rattle.std.specs.Prelude.{◌≡◌, length}
+use Rattle.std.specs.Prelude.{◌≡◌, length, Result, Ok, Err, ℕ}
 use Rattle.lexemes.specs.Contexts.{after}
-use Rattle.lexemes.specs.Reader.{Walked, whole, refused}
+use Rattle.lexemes.specs.Errors.{error_number}
+use Rattle.lexemes.specs.Reader.{Step, Walked, whole, refused}
 use Rattle.lexemes.specs.declared.Context.{Context}
-use Rattle.lexemes.specs.declared.Step.{Step}
-use Rattle.lexemes.specs.declared.Step.TheVariants.{Token, Stop}
+use Rattle.lexemes.specs.declared.LexemeError.{LexemeError}
 use Rattle.lexer.specs.declared.skip.Skip.{Skip}
-use Rattle.lexer.specs.declared.skip.Skip.TheVariants.{To, Halt}
-use Rattle.lexer.specs.declared.call.Counted.{Counted}
-use Rattle.lexer.specs.declared.call.Counted.TheVariants.{Tokens, Refused}
+use Rattle.lexer.specs.declared.call.LexError.{LexError}
+use Rattle.lexer.specs.declared.call.LexError.TheVariants.{TextTooLong, Refused, TokensTooShort}
 
 -- the context behind a token, and where the next one begins
-unfoldable pub skip_of : Context → Step → Skip
-skip_of c (Token k a e x n) = To (after c k) n
-skip_of c (Stop r) = Halt r
+unfoldable pub skip_of : Context → Step → Result Skip LexemeError
+skip_of c (Ok t) = Ok (record { context = after c t.kind; next = t.next })
+skip_of c (Err r) = Err r
 
 -- how many tokens a walk has, or its refusal
-abbrev pub Counts : Walked → Counted → Type 0
-Counts w (Tokens n) = (w.end ≡ whole) × (n ≡ length w.tokens)
-Counts w (Refused r q) = w.end ≡ refused r q
+abbrev pub Counts : Walked → Result ℕ LexError → Type 0
+Counts w (Ok n) = (w.end ≡ whole) × (n ≡ length w.tokens)
+Counts w (Err TextTooLong) = ⊥
+Counts w (Err (Refused r q)) = w.end ≡ refused (error_number r) q
+Counts w (Err (TokensTooShort n)) = ⊥

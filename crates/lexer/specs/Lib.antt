@@ -1,4 +1,3 @@
--- What the lexer promises. A reader has to believe Call; what begins with "Inner" says what the code's own functions answer.
+-- What the lexer promises. A reader has to believe Call; Counts begins with "Inner": it says what the code's own functions answer.
 pub mod Call
-pub mod Classes
 pub mod Counts

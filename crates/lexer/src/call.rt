@@ -2,35 +2,28 @@
 ghost use Rattle.std.specs.Prelude.{◌≤◌, ◌≡◌, length};
 ghost use Rattle.tokens.specs.Number.{most_bytes, token_width};
 ghost use Rattle.tokens.specs.Lent.{put_all};
-ghost use Rattle.spelling.specs.Slots.{spellings};
 ghost use Rattle.lexemes.specs.Reader.{reading};
 ghost use Rattle.lexer.specs.Counts.{Counts};
 ghost use Rattle.lexer.specs.Call.{LexCall};
 
-use crate::skip::{Skip, next_skip};
+use crate::skip::next_skip;
 use crate::token::{context_after, next_token};
-use lexemes::{Context, Step};
-use spelling::made_table;
+use lexemes::{Context, LexemeError};
 use tokens::{clear_behind, kind, number, put_record};
 
-// How many tokens a text has, or its refusal: number and cursor.
-#[derive(Drop)]
-pub enum Counted {
-    Tokens(usize),
-    Refused(u32, usize),
-}
-
-// The call's answer: the refusal's number and cursor, the tokens needed, or the tokens written.
-#[derive(Drop)]
-pub enum Lexed {
+// Why a text's tokens are not written.
+#[derive(Clone, Copy, Debug, PartialEq, Eq)]
+pub enum LexError {
     TextTooLong,
-    Refused(u32, usize),
+    // What is wrong with its bytes, and the first byte of what is refused.
+    Refused(LexemeError, usize),
+    // The tokens needed.
     TokensTooShort(usize),
-    Read(usize),
 }
 
-// The first pass, which writes nothing.
-fn count(text: &[u8]) -> Counted
+// The first pass, which writes nothing: how many tokens a text has. By `while`, as the second is, and not by an iterator of tokens: it would need a clause of its own, that what it
+// gives is the reading's rest, beside each loop's invariant, and the loops take different items of it, a `Skip` and a `Token`, and go on with the place where it ended.
+fn count(text: &[u8]) -> Result<usize, LexError>
     requires { length text.now ≤ most_bytes }
     ensures { Counts (reading text.now) result }
 {
@@ -38,83 +31,50 @@ fn count(text: &[u8]) -> Counted
     let mut s = 0;
     let mut n = 0;
     while s < text.len() {
-        let step = next_skip(text, c, s);
-        match step {
-            Skip::Halt(r) => {
-                return Counted::Refused(r, s);
-            }
-            Skip::To(d, next) => {
-                c = d;
-                s = next;
-                n += 1;
-                continue;
-            }
-        }
+        let skip = next_skip(&text[s..], c, s).map_err(|error| LexError::Refused(error, s))?;
+        c = skip.context;
+        s = skip.next;
+        n += 1;
     }
-    Counted::Tokens(n + 1)
+    Ok(n + 1)
 }
 
 // The second pass: the tokens, up to a refusal.
-fn write(table: &[u8], text: &[u8], list: &mut [u32])
-    requires { (length text.now ≤ most_bytes) × (table.now ≡ spellings) }
+fn write(text: &[u8], list: &mut [u32])
+    requires { length text.now ≤ most_bytes }
     ensures { list.new ≡ put_all token_width list.old 0 (reading text.now).tokens }
 {
     let mut c = Context::Out;
     let mut s = 0;
     let mut n = 0;
     while s < text.len() {
-        let step = next_token(table, text, c, s);
-        match step {
-            Step::Stop(_) => {
-                return;
-            }
-            Step::Token {
-                kind,
-                start,
-                end,
-                extra,
-                next,
-            } => {
-                put_record(list, n, &[kind, start, end, extra]);
-                c = context_after(c, kind);
-                s = next;
-                n += 1;
-                continue;
-            }
-        }
+        let Ok(token) = next_token(&text[s..], c, s) else {
+            return;
+        };
+        put_record(list, n, &[token.kind, token.start, token.end, token.extra]);
+        c = context_after(c, token.kind);
+        s = token.next;
+        n += 1;
     }
     put_record(list, n, &[kind::EOF, s as u32, s as u32, 0]);
 }
 
-// The table is made here, once for a text that is written, and lent from here on.
-fn write_all(text: &[u8], list: &mut [u32])
-    requires { length text.now ≤ most_bytes }
-    ensures { list.new ≡ put_all token_width list.old 0 (reading text.now).tokens }
-{
-    let table = made_table();
-    write(&table, text, list);
-}
-
-// The call: nothing is written before it is known that the text has a reading and the list the room for it.
-pub fn lex(text: &[u8], tokens: &mut [u32]) -> Lexed
+// The call: nothing is written before it is known that the text has a reading and the list the room for it. How many tokens were written.
+pub fn lex(text: &[u8], tokens: &mut [u32]) -> Result<usize, LexError>
     ensures { LexCall text.now tokens.old result tokens.new }
 {
     if number::MOST_BYTES < text.len() {
-        return Lexed::TextTooLong;
+        return Err(LexError::TextTooLong);
     }
-    let counted = count(text);
-    match counted {
-        Counted::Refused(r, q) => Lexed::Refused(r, q),
-        Counted::Tokens(n) => {
-            if number::MOST_TOKENS < n {
-                return Lexed::TokensTooShort(n);
-            }
-            if tokens.len() / number::TOKEN_WIDTH < n {
-                return Lexed::TokensTooShort(n);
-            }
-            write_all(text, tokens);
-            clear_behind(tokens, n, number::TOKEN_WIDTH);
-            Lexed::Read(n)
-        }
+    let n = count(text)?;
+    // Two tests for the two halves of `NoRoom`, of any list and of this one; edits/lexer/room_of_the_list changes the second alone.
+    if number::MOST_TOKENS < n {
+        return Err(LexError::TokensTooShort(n));
     }
+    if tokens.len() / number::TOKEN_WIDTH < n {
+        return Err(LexError::TokensTooShort(n));
+    }
+    write(text, tokens);
+    clear_behind(tokens, n, number::TOKEN_WIDTH);
+    Ok(n)
 }

@@ -1,105 +1,90 @@
-// Classes of bytes, and how far a run of one class reaches.
-ghost use Rattle.std.specs.Prelude.{◌+◌, ◌≤◌, ◌≡◌, length, get_or, drop};
-ghost use Rattle.lexemes.specs.Bytes.{is_space, is_digit, is_word_byte, in_quotes};
+// What comes first in a text: a byte, bytes that are known, how many bytes of a class.
+ghost use Rattle.std.specs.Prelude.{ℕ, ◌≤◌, ◌<◌, ◌≡◌, Bool, MatchOption, length, get_or, drop};
+ghost use Rattle.lexemes.specs.Bytes.{begins, is_space, is_digit, is_word_byte, in_line, in_quotes};
 ghost use Rattle.lexemes.specs.Reader.{run, closing, opened};
-ghost use Rattle.lexer.specs.Classes.{within};
 
-// What a run is made of. Letter: letters, digits and underscores; Line: all but LF; Double and Single: what stands in a string between such quotes.
-#[derive(Clone, Copy)]
-pub enum Class {
-    Space,
-    Digit,
-    Hex,
-    Letter,
-    Line,
-    Double,
-    Single,
-}
+use tokens::same_name;
 
 // The byte at a place, past the end 0, which no rule names.
-pub fn byte_at(text: &[u8], i: usize) -> u8
-    ensures { result ≡ get_or text.now i 0 }
+pub fn byte_at(bytes: &[u8], i: usize) -> u8
+    ensures { result ≡ get_or bytes.now i 0 }
 {
-    if i < text.len() { text[i] } else { 0 }
+    bytes.get(i).copied().unwrap_or(0)
 }
 
-// The tests are joined by | and &, which compile to no branches.
+// The bytes begin with these. `starts_with` was tried: with it, and strings in one arm of `lexeme_first`, the lexer took 36 ns a token in place of 26 on names and 43 in place of 33 on
+// white space.
+pub fn begins_with(bytes: &[u8], what: &[u8]) -> bool
+    ensures { result ≡ begins what.now bytes.now }
+{
+    what.len() <= bytes.len() && same_name(&bytes[..what.len()], what)
+}
+
+#[tactic(auto, unfolding(lexemes::specs::Bytes::is_space))]
 pub fn is_space(b: u8) -> bool
     ensures { result ≡ is_space b }
 {
-    (b == b' ') | (b == b'\t') | (b == b'\r') | (b == b'\n')
+    matches!(b, b' ' | b'\t' | b'\r' | b'\n')
 }
 
+// Joined by | and &, here and below: `is_ascii_digit` and `is_ascii_alphanumeric` were tried, and a text of words took a fifth longer (bench/README.md).
+#[tactic(auto, unfolding(lexemes::specs::Bytes::is_digit))]
 pub fn is_digit(b: u8) -> bool
     ensures { result ≡ is_digit b }
 {
     (b'0' <= b) & (b <= b'9')
 }
 
+// A letter, a digit or an underscore.
+#[tactic(auto, unfolding(lexemes::specs::Bytes::is_word_byte))]
 pub fn is_letter(b: u8) -> bool
     ensures { result ≡ is_word_byte b }
 {
     is_digit(b) | ((b'A' <= b) & (b <= b'Z')) | (b == b'_') | ((b'a' <= b) & (b <= b'z'))
 }
 
+// The byte can stand in a line.
+#[tactic(auto, unfolding(lexemes::specs::Bytes::in_line))]
+pub fn in_line(b: u8) -> bool
+    ensures { result ≡ in_line b }
+{
+    b != b'\n'
+}
+
 // The byte can stand in a string between these quotes.
-fn is_inside(quote: u8, b: u8) -> bool
+#[tactic(auto, unfolding(lexemes::specs::Bytes::in_quotes))]
+pub fn in_quotes(quote: u8, b: u8) -> bool
     ensures { result ≡ in_quotes quote b }
 {
-    (b != quote) & (b != b'\n')
+    (b != quote) & in_line(b)
 }
 
-// The byte is one of the class.
-fn is_within(class: Class, b: u8) -> bool
-    ensures { result ≡ within class b }
+// How many bytes of a class come first.
+pub fn run_of<F: Fn(u8) -> bool>(bytes: &[u8], is_in: F) -> usize
+    requires { F.IsAlwaysCallable is_in }
+    ensures value { (class : ℕ → Bool) → ((b : ℕ) (r : Bool) → b < 256 → F.post is_in b r → r ≡ class b) → result ≡ run class bytes.now }
+    ensures result_in_bounds { result ≤ length bytes.now }
 {
-    match class {
-        Class::Space => is_space(b),
-        Class::Digit => is_digit(b),
-        Class::Hex => tokens::is_hex(b),
-        Class::Letter => is_letter(b),
-        Class::Line => b != b'\n',
-        Class::Double => is_inside(b'"', b),
-        Class::Single => is_inside(b'\'', b),
-    }
+    bytes.iter().position(|b| !is_in(*b)).unwrap_or(bytes.len())
 }
 
-// How many bytes from s on are of the class.
-pub fn run_of(class: Class, text: &[u8], s: usize) -> usize
-    requires { s ≤ length text.now }
-    ensures value { result ≡ run (within class) (drop s text.now) }
-    ensures result_in_bounds { s + result ≤ length text.now }
+// A comment's end begins at this byte.
+fn closes(bytes: &[u8], i: usize) -> bool
+    requires { i < length bytes.now }
+    ensures { result ≡ closing (drop i bytes.now) }
 {
-    let mut i = s;
-    while i < text.len() {
-        if !is_within(class, text[i]) {
-            return i - s;
+    bytes[i] == b'*' && byte_at(bytes, i + 1) == b'/'
+}
+
+// How many bytes come before the first end of a comment. `windows(2)` with `position` was tried: from what its runs promise the search does not come to the first place of the two
+// bytes, as it does from `iter`'s in `run_of`.
+pub fn comment_end(bytes: &[u8]) -> Option<usize>
+    ensures { MatchOption result (length bytes.now ≤ opened bytes.now) (λ n. (n < length bytes.now) × (n ≡ opened bytes.now)) }
+{
+    for i in 0..bytes.len() {
+        if closes(bytes, i) {
+            return Some(i);
         }
-        i += 1;
     }
-    i - s
-}
-
-// A comment's end begins here.
-fn closes(text: &[u8], i: usize) -> bool
-    requires { i ≤ length text.now }
-    ensures { result ≡ closing (drop i text.now) }
-{
-    (byte_at(text, i) == b'*') & (byte_at(text, i + 1) == b'/')
-}
-
-// How many bytes from s on come before the first end of a comment.
-pub fn open_of(text: &[u8], s: usize) -> usize
-    requires { s ≤ length text.now }
-    ensures value { result ≡ opened (drop s text.now) }
-    ensures result_in_bounds { s + result ≤ length text.now }
-{
-    let mut i = s;
-    while i < text.len() {
-        if closes(text, i) {
-            return i - s;
-        }
-        i += 1;
-    }
-    i - s
+    None
 }

@@ -1,179 +1,166 @@
-// The lexeme at a place: its kind and its length, by its first byte. A word's kind is Ident here; which word it is, is told afterwards.
-ghost use Rattle.std.specs.Prelude.{◌+◌, ◌≤◌, ◌<◌, ◌≡◌, length, drop};
-ghost use Rattle.lexemes.specs.Bytes.{is_word_byte, in_quotes, begins};
+// The lexeme that comes first: its kind and its length, by its first byte. A word's kind is Ident here; which word it is, is told afterwards.
+// All that answer a lexeme are inlined in the two passes: what is found is then not stored and loaded again, without which a text takes a third longer (bench/README.md).
+ghost use Rattle.std.specs.Prelude.{◌<◌, ◌≡◌, length, drop};
+ghost use Rattle.lexemes.specs.Bytes.{is_word_byte};
 ghost use Rattle.lexemes.specs.Contexts.{is_code};
-ghost use Rattle.lexemes.specs.Reader.{run, slash, quoted, hashed, hash, number, word, worded, marked, lexeme_of};
-ghost use Rattle.lexer.specs.Classes.{within};
+ghost use Rattle.lexemes.specs.Reader.{run, found, slash, quoted, hashed, hash, number, word, worded, marked, lexeme_of};
 
-use crate::class::{Class, byte_at, is_digit, is_letter, is_space, open_of, run_of};
-use lexemes::{Context, Found};
-use tokens::{kind, number, same_name};
+use crate::class::{
+    begins_with, byte_at, comment_end, in_line, in_quotes, is_digit, is_letter, is_space, run_of,
+};
+use lexemes::{Context, Found, LexemeError};
+use tokens::{is_hex, kind};
 
-// The text from s on begins with this.
-pub fn begins_with(text: &[u8], s: usize, what: &[u8]) -> bool
-    requires { s ≤ length text.now }
-    ensures { result ≡ begins what.now (drop s text.now) }
+// So many bytes of this kind. Always Ok, as the rules' `found` is: each call is a reader's whole answer, and all would say `Ok` else. `kind` is a parameter here and in other
+// functions, and in front of `::` the module of the kinds' numbers.
+#[inline(always)]
+fn found(kind: u32, length: usize) -> Result<Found, LexemeError>
+    ensures { result ≡ found kind length }
 {
-    if text.len() - s < what.len() {
-        return false;
-    }
-    let e = s + what.len();
-    same_name(&text[s..e], what)
+    Ok(Found { kind, length })
 }
 
 // A comment of either sort.
-fn slash_at(text: &[u8], s: usize) -> Found
-    requires { s < length text.now }
-    ensures { result ≡ slash (drop s text.now) }
+#[inline(always)]
+fn slash_first(bytes: &[u8]) -> Result<Found, LexemeError>
+    ensures { result ≡ slash bytes.now }
 {
-    let b = byte_at(text, s + 1);
-    if b == b'/' {
-        return Found::Is(kind::COMMENT, run_of(Class::Line, text, s));
+    match byte_at(bytes, 1) {
+        b'/' => found(kind::COMMENT, run_of(bytes, in_line)),
+        b'*' => match comment_end(&bytes[2..]) {
+            Some(n) => found(kind::COMMENT, n + 4),
+            None => Err(LexemeError::NotClosed),
+        },
+        _ => Err(LexemeError::StartsNothing),
     }
-    if b != b'*' {
-        return Found::Not(number::STARTS_NOTHING);
-    }
-    let n = open_of(text, s + 2);
-    if s + 2 + n < text.len() {
-        return Found::Is(kind::COMMENT, n + 4);
-    }
-    Found::Not(number::NOT_CLOSED)
 }
 
-// A string between these quotes; the class is what can stand in it.
-fn quoted_at(text: &[u8], s: usize, class: Class, quote: u8) -> Found
-    requires { (s < length text.now) × (within class ≡ in_quotes quote) }
-    ensures { result ≡ quoted quote (drop s text.now) }
+// A string between these quotes. That a byte is there is asked for here and wherever bytes are left: what is left of a text changes with each token, so no type carries the fact.
+#[inline(always)]
+fn quote_first(quote: u8, bytes: &[u8]) -> Result<Found, LexemeError>
+    requires { 0 < length bytes.now }
+    ensures { result ≡ quoted quote bytes.now }
 {
-    let n = run_of(class, text, s + 1);
-    if byte_at(text, s + 1 + n) == quote {
-        return Found::Is(kind::STR, n + 2);
+    let n = run_of(&bytes[1..], |b| in_quotes(quote, b));
+    if byte_at(bytes, 1 + n) == quote {
+        found(kind::STR, n + 2)
+    } else {
+        Err(LexemeError::NotClosed)
     }
-    Found::Not(number::NOT_CLOSED)
 }
 
-// The word behind the # at s, which has n bytes, is exactly this one.
-fn is_hashed(text: &[u8], s: usize, n: usize, what: &[u8]) -> bool
-    requires { (s < length text.now) × (n ≡ run is_word_byte (drop (s + 1) text.now)) }
-    ensures { result ≡ hashed what.now (drop s text.now) }
+// The word behind the #, which has n bytes, is exactly this one: told by its length and its beginning, as the rules' `hashed` tells it.
+fn is_hashed(bytes: &[u8], n: usize, what: &[u8]) -> bool
+    requires { (0 < length bytes.now) × (n ≡ run is_word_byte (drop 1 bytes.now)) }
+    ensures { result ≡ hashed what.now bytes.now }
 {
-    if n != what.len() {
-        return false;
-    }
-    begins_with(text, s + 1, what)
+    n == what.len() && begins_with(&bytes[1..], what)
 }
 
-// `#define`, `#include` or the mark alone.
-fn hash_at(text: &[u8], s: usize) -> Found
-    requires { s < length text.now }
-    ensures { result ≡ hash (drop s text.now) }
+// `#define`, `#include` or the mark alone, of 7, 8 bytes and one.
+#[inline(always)]
+fn hash_first(bytes: &[u8]) -> Result<Found, LexemeError>
+    requires { 0 < length bytes.now }
+    ensures { result ≡ hash bytes.now }
 {
-    let n = run_of(Class::Letter, text, s + 1);
-    if is_hashed(text, s, n, b"define") {
-        return Found::Is(kind::DEFINE, 7);
+    let n = run_of(&bytes[1..], is_letter);
+    if is_hashed(bytes, n, b"define") {
+        return found(kind::DEFINE, 7);
     }
-    if is_hashed(text, s, n, b"include") {
-        return Found::Is(kind::INCLUDE, 8);
+    if is_hashed(bytes, n, b"include") {
+        return found(kind::INCLUDE, 8);
     }
-    Found::Is(kind::POUND, 1)
+    found(kind::POUND, 1)
 }
 
 // A literal or a decimal number.
-fn number_at(text: &[u8], s: usize) -> Found
-    requires { s < length text.now }
-    ensures { result ≡ number (drop s text.now) }
+#[inline(always)]
+fn digit_first(bytes: &[u8]) -> Result<Found, LexemeError>
+    ensures { result ≡ number bytes.now }
 {
-    if !begins_with(text, s, b"0x") {
-        return Found::Is(kind::NUM, run_of(Class::Digit, text, s));
+    let Some(digits) = bytes.strip_prefix(b"0x") else {
+        return found(kind::NUM, run_of(bytes, is_digit));
+    };
+    // In a closure: the kit exports no contract for a function of another crate that is passed by its name.
+    match run_of(digits, |b| is_hex(b)) {
+        0 => Err(LexemeError::StartsNothing),
+        n => found(kind::LITERAL, n + 2),
     }
-    let n = run_of(Class::Hex, text, s + 2);
-    if n == 0 {
-        return Found::Not(number::STARTS_NOTHING);
-    }
-    Found::Is(kind::LITERAL, n + 2)
 }
 
-// A word, or the one name that its parentheses belong to.
-fn word_at(text: &[u8], s: usize) -> Found
-    requires { s < length text.now }
-    ensures { result ≡ word (drop s text.now) }
+// A word, or the one name that its parentheses belong to, of 22 bytes with them.
+#[inline(always)]
+fn word_first(bytes: &[u8]) -> Result<Found, LexemeError>
+    ensures { result ≡ word bytes.now }
 {
-    if begins_with(text, s, b"FREE_STORAGE_POINTER()") {
-        return Found::Is(kind::FREE_STORAGE_POINTER, 22);
+    if begins_with(bytes, b"FREE_STORAGE_POINTER()") {
+        return found(kind::FREE_STORAGE_POINTER, 22);
     }
-    Found::Is(kind::IDENT, run_of(Class::Letter, text, s))
+    found(kind::IDENT, run_of(bytes, is_letter))
 }
 
-// Inside a code table's braces.
+// Inside a code table's braces. No `==`, here and in `in_body`: with a derived PartialEq what asks this didn't prove by itself (tried), since the derive's clause is not in the
+// words of the rules, `is_code` and `is_body`.
+#[tactic(auto, unfolding(lexemes::specs::Contexts::is_code))]
 pub fn in_code(c: Context) -> bool
     ensures { result ≡ is_code c }
 {
-    match c {
-        Context::Out => false,
-        Context::Wait => false,
-        Context::Body => false,
-        Context::Code => true,
-    }
+    matches!(c, Context::Code)
 }
 
 // What begins with a letter, a digit or an underscore.
-fn worded_at(text: &[u8], c: Context, s: usize) -> Found
-    requires { s < length text.now }
-    ensures { result ≡ worded c (drop s text.now) }
+#[inline(always)]
+fn letter_first(bytes: &[u8], c: Context) -> Result<Found, LexemeError>
+    requires { 0 < length bytes.now }
+    ensures { result ≡ worded c bytes.now }
 {
     if in_code(c) {
-        return Found::Is(kind::IDENT, run_of(Class::Letter, text, s));
+        return found(kind::IDENT, run_of(bytes, is_letter));
     }
-    if is_digit(text[s]) {
-        return number_at(text, s);
+    if is_digit(bytes[0]) {
+        digit_first(bytes)
+    } else {
+        word_first(bytes)
     }
-    word_at(text, s)
 }
 
-// The mark that a byte is.
-fn mark_of(b: u8) -> Found
+// The mark that a byte is. `#` never comes here, since `hash_first` takes it; its arm is for the clause, as the rules' `marked` has all marks.
+#[tactic(auto, unfolding(lexemes::specs::Reader::mark_is, spelling::specs::Spelling::marks, spelling::specs::Spelling::spelt, spelling::specs::Spelling::value_of, tokens::specs::Byte::same))]
+#[inline(always)]
+fn mark_of(b: u8) -> Result<Found, LexemeError>
     ensures { result ≡ marked b }
 {
     match b {
-        b'#' => Found::Is(kind::POUND, 1),
-        b'=' => Found::Is(kind::ASSIGN, 1),
-        b'(' => Found::Is(kind::OPEN_PAREN, 1),
-        b')' => Found::Is(kind::CLOSE_PAREN, 1),
-        b'{' => Found::Is(kind::OPEN_BRACE, 1),
-        b'}' => Found::Is(kind::CLOSE_BRACE, 1),
-        b'[' => Found::Is(kind::OPEN_BRACKET, 1),
-        b']' => Found::Is(kind::CLOSE_BRACKET, 1),
-        b'<' => Found::Is(kind::LEFT_ANGLE, 1),
-        b'>' => Found::Is(kind::RIGHT_ANGLE, 1),
-        b',' => Found::Is(kind::COMMA, 1),
-        b':' => Found::Is(kind::COLON, 1),
-        _ => Found::Not(number::STARTS_NOTHING),
+        b'#' => found(kind::POUND, 1),
+        b'=' => found(kind::ASSIGN, 1),
+        b'(' => found(kind::OPEN_PAREN, 1),
+        b')' => found(kind::CLOSE_PAREN, 1),
+        b'{' => found(kind::OPEN_BRACE, 1),
+        b'}' => found(kind::CLOSE_BRACE, 1),
+        b'[' => found(kind::OPEN_BRACKET, 1),
+        b']' => found(kind::CLOSE_BRACKET, 1),
+        b'<' => found(kind::LEFT_ANGLE, 1),
+        b'>' => found(kind::RIGHT_ANGLE, 1),
+        b',' => found(kind::COMMA, 1),
+        b':' => found(kind::COLON, 1),
+        _ => Err(LexemeError::StartsNothing),
     }
 }
 
-// What begins at s.
-pub fn lexeme_at(text: &[u8], c: Context, s: usize) -> Found
-    requires { s < length text.now }
-    ensures { result ≡ lexeme_of c (drop s text.now) }
+// What comes first.
+#[inline(always)]
+pub fn lexeme_first(bytes: &[u8], c: Context) -> Result<Found, LexemeError>
+    requires { 0 < length bytes.now }
+    ensures { result ≡ lexeme_of c bytes.now }
 {
-    let b = text[s];
-    if is_letter(b) {
-        return worded_at(text, c, s);
+    match bytes[0] {
+        b if is_letter(b) => letter_first(bytes, c),
+        b if is_space(b) => found(kind::WHITESPACE, run_of(bytes, is_space)),
+        b'/' => slash_first(bytes),
+        // Not in one arm: tried together with `starts_with`, and slower (class.rt, `begins_with`).
+        b'"' => quote_first(b'"', bytes),
+        b'\'' => quote_first(b'\'', bytes),
+        b'#' => hash_first(bytes),
+        b => mark_of(b),
     }
-    if is_space(b) {
-        return Found::Is(kind::WHITESPACE, run_of(Class::Space, text, s));
-    }
-    if b == b'/' {
-        return slash_at(text, s);
-    }
-    if b == b'"' {
-        return quoted_at(text, s, Class::Double, b'"');
-    }
-    if b == b'\'' {
-        return quoted_at(text, s, Class::Single, b'\'');
-    }
-    if b == b'#' {
-        return hash_at(text, s);
-    }
-    mark_of(b)
 }

@@ -8,4 +8,4 @@ mod skip;
 mod token;
 mod word;
 
-pub use call::{Lexed, lex};
+pub use call::{LexError, lex};

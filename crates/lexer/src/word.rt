@@ -1,31 +1,27 @@
 // What a word is: by its spelling, the byte behind it and where it stands.
 ghost use Rattle.std.specs.Prelude.{◌≡◌};
-ghost use Rattle.spelling.specs.Slots.{spellings};
 ghost use Rattle.lexemes.specs.Contexts.{is_body};
 ghost use Rattle.lexemes.specs.Words.{plain, in_braces, by_place, word_of};
 
-use crate::lexeme::{begins_with, in_code};
+use crate::class::begins_with;
+use crate::lexeme::in_code;
 use lexemes::Context;
 use spelling::{kind_outside, opcode_of};
-use tokens::{kind, number};
+use tokens::kind;
 
 // A token's kind and extra.
-#[derive(Drop)]
+#[derive(Clone, Copy)]
 pub struct Word {
     pub kind: u32,
     pub extra: u32,
 }
 
 // Inside braces that are no code table's.
+#[tactic(auto, unfolding(lexemes::specs::Contexts::is_body))]
 fn in_body(c: Context) -> bool
     ensures { result ≡ is_body c }
 {
-    match c {
-        Context::Out => false,
-        Context::Wait => false,
-        Context::Body => true,
-        Context::Code => false,
-    }
+    matches!(c, Context::Body)
 }
 
 // A word whose extra is 0.
@@ -36,35 +32,34 @@ fn plain_word(kind: u32) -> Word
 }
 
 // A word in braces: a mnemonic or a name.
-fn in_braces(table: &[u8], word: &[u8]) -> Word
-    requires { table.now ≡ spellings }
+#[tactic(auto, unfolding(lexemes::specs::Words::in_braces))]
+fn in_braces(word: &[u8]) -> Word
     ensures { (result.kind, result.extra) ≡ in_braces word.now }
 {
-    let byte = opcode_of(table, word);
-    if byte <= number::MOST_BYTE {
-        return Word {
+    match opcode_of(word) {
+        Some(byte) => Word {
             kind: kind::OPCODE,
-            extra: byte,
-        };
+            extra: u32::from(byte),
+        },
+        None => plain_word(kind::IDENT),
     }
-    plain_word(kind::IDENT)
 }
 
 // A word that nothing behind it tells.
-fn by_place(table: &[u8], c: Context, word: &[u8]) -> Word
-    requires { table.now ≡ spellings }
+#[tactic(auto, unfolding(lexemes::specs::Words::by_place))]
+fn by_place(c: Context, word: &[u8]) -> Word
     ensures { (result.kind, result.extra) ≡ by_place c word.now }
 {
     if in_body(c) {
-        return in_braces(table, word);
+        in_braces(word)
+    } else {
+        plain_word(kind_outside(word))
     }
-    plain_word(kind_outside(table, word))
 }
 
 // The word's kind and extra, with this byte behind it.
 #[tactic(auto, unfolding(lexemes::specs::Words::word_of))]
-pub fn word_of(table: &[u8], c: Context, word: &[u8], next: u8) -> Word
-    requires { table.now ≡ spellings }
+pub fn word_of(c: Context, word: &[u8], next: u8) -> Word
     ensures { (result.kind, result.extra) ≡ word_of c word.now next }
 {
     if in_code(c) {
@@ -73,11 +68,8 @@ pub fn word_of(table: &[u8], c: Context, word: &[u8], next: u8) -> Word
     if next == b':' {
         return plain_word(kind::LABEL);
     }
-    if next == b'(' {
-        if begins_with(word, 0, b"__") {
-            return plain_word(kind::BUILTIN_FUNCTION);
-        }
-        return by_place(table, c, word);
+    if next == b'(' && begins_with(word, b"__") {
+        return plain_word(kind::BUILTIN_FUNCTION);
     }
-    by_place(table, c, word)
+    by_place(c, word)
 }

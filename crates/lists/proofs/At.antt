@@ -6,6 +6,8 @@ use mathlib.Core.List.{List, [], ◌∷◌}
 use borrow.Author.Tests.{eq-eqb, ne_eqb, le-ltb}
 use lib.ListN.{drop, length, drop_of_length-le}
 use lib.Dec.{eqb}
+use Rattle.std.specs.Prelude.{Result, Err, IsErrAnd}
+use Rattle.std.proofs.lemmas.Result.{err_from_is_err_and}
 use Rattle.tokens.specs.Token.{Token, eof_token, token_at, view}
 use Rattle.tokens.specs.Place.{KindAt, kind_at, field_at}
 use Rattle.tokens.proofs.TokenLaws.{view_kind}
@@ -17,6 +19,10 @@ use lib.Seq.{get_or-drop}
 use mathlib.Core.Logic.{⊎_elim}
 use native.Mathlib.Omega.{arith}
 use Rattle.tokens.proofs.Laws.{lt_or_le}
+
+-- what a `?` hands on is the refusal that came
+pub handed_on : {T E : Type 0} {f : E} (r : Result T E) → IsErrAnd r (λ y. y ≡ f) → r ≡ Err f
+handed_on r h = let handed = err_from_is_err_and r h in rw (← handed.2) handed.1
 
 -- the kind that the code read at q is that of the view's token there; the reader may write the place another way
 pub kind_is : (text : List ℕ) {words kept : List ℕ} {q k : ℕ} (p : ℕ) → KindAt words kept q k → q ≡ p → (token_at (view text words kept) p).kind ≡ k

@@ -9,9 +9,12 @@ use mathlib.Core.List.{List, [], ◌∷◌, map}
 use borrow.Author.Tests.{eq-eqb, ne_eqb}
 use lib.Dec.{eqb}
 use lib.ListN.{length, drop, length-map}
-use Rattle.tokens.specs.Kind.{CloseParen, Comma}
+use Rattle.std.specs.Prelude.{Result, Ok, Err, IsErrAnd}
+use Rattle.tokens.specs.Kind.{OpenParen, CloseParen, Comma}
 use Rattle.tokens.specs.Token.{Token, token_at, view}
 use Rattle.tokens.specs.Place.{KindAt}
+use Rattle.tokens.specs.Source.{all, all_from, count}
+use Rattle.tokens.specs.declared.source.Source.{Source}
 use Rattle.tokens.specs.Lent.{put, put_all}
 use Rattle.tokens.proofs.TokenLaws.{view_length}
 use Rattle.tokens.proofs.LentLaws.{put_length}
@@ -24,32 +27,29 @@ use Rattle.grammar.proofs.AtPlace.{look_at, seq_got, seq_bad}
 use Rattle.tokens.specs.Number.{argument_width}
 use Rattle.grammar.specs.Written.{Written}
 use Rattle.lists.specs.declared.argument.Argument.{Argument}
-use Rattle.lists.specs.declared.argument.Arg.{Arg}
 use Rattle.lists.specs.declared.argument.Sort.{Sort}
 use Rattle.lists.specs.declared.list.ArgList.{ArgList}
-use Rattle.lists.specs.Answers.{code_argument, arg_answer, ArgRead, one, argument_words, list_answer, ListWithin, ListRead}
-use Rattle.lists.proofs.At.{kind_is, expect_yes}
+use Rattle.lists.specs.Answers.{form_number, reading_of, arg_answer, ArgRead, one, list_answer, ListWithin, ListRead}
+use Rattle.lists.proofs.At.{handed_on, kind_is, expect_yes, expect_no}
 use Rattle.lists.proofs.Left.{Outcome, done, refused, outcome, left, left_step, left_end, left_refused}
 use Rattle.grammar.specs.Reading as reading
-use Rattle.lists.specs.declared.argument.Arg.TheVariants as arg
-use Rattle.lists.specs.declared.list.ArgList.TheVariants as lists
 
 -- ---- an argument and what stands behind it
 
-pub argument_within : {q size e : ℕ} {x : Res reading.Argument} {a : Argument} {r : Arg} → r ≡ arg.One a e → ArgRead q size x r → (q < e) × (e ≤ size)
+pub argument_within : {q size : ℕ} {x : Res reading.Argument} {given : Argument} {r : Result Argument (ℕ × ℕ)} → r ≡ Ok given → ArgRead q size x r → (q < given.end) × (given.end ≤ size)
 argument_within is h = rw is at h.within
 
--- the code's argument a up to e was read from q
-record Found (q : ℕ) (read : Res reading.Argument) (a : Argument) (e : ℕ) : Type 0 where
-  value : reading.Argument
+-- the code's argument was read from q
+record Found (q : ℕ) (read : Res reading.Argument) (given : Argument) : Type 0 where
   size : ℕ
-  is : read ≡ got value size
-  same : code_argument value ≡ a
-  ends : q + size ≡ e
+  is : read ≡ got (reading_of given) size
+  ends : q + size ≡ given.end
 
-found : (q : ℕ) (read : Res reading.Argument) (a : Argument) (e : ℕ) → arg_answer q read ≡ arg.One a e → Found q read a e
-found q (got x k) a e h = record { value = x; size = k; is = refl; same = cc; ends = cc }
-found q (bad y w) a e h = absurd (let z : ◌≡◌ {A = ℕ} 0 1 = cc in omega arith)
+found : (q : ℕ) (read : Res reading.Argument) (given : Argument) → Ok (reading_of given, given.end) ≡ arg_answer q read → Found q read given
+found q (got x k) given h =
+    let same : ◌≡◌ {A = reading.Argument × ℕ} (reading_of given, given.end) (x, q + k) = cc in
+    record { size = k; is = ap (λ x. got x k) (sym (ap (λ a. a.0) same)); ends = sym (ap (λ a. a.1) same) }
+found q (bad y w) given h = absurd (let z : ◌≡◌ {A = ℕ} 0 1 = cc in omega arith)
 
 -- the argument with the Comma that stands behind it, or without
 abbrev entry : reading.Argument → Bool → Entry
@@ -84,34 +84,32 @@ module _ (u : ℕ → ℕ → List Token → Res reading.Argument) (all : List T
   entries_left = left ends_list counts (λ n. separated (u n)) 7 row all
 
   module _ (table : List ℕ) (m s q : ℕ) (off : (token_at all q).kind ≡ CloseParen → ⊥) where
-    -- a turn: an argument up to e with a Comma behind it, or without
-    module _ (a : Argument) (e : ℕ) (is : arg_answer q (u s q (drop q all)) ≡ arg.One a e) (lt : q < e) (inside : q < length all) where
-      here : Found q (u s q (drop q all)) a e
-      here = found q (u s q (drop q all)) a e is
+    -- a turn: an argument with a Comma behind it, or without
+    module _ (given : Argument) (is : Ok (reading_of given, given.end) ≡ arg_answer q (u s q (drop q all))) (lt : q < given.end) (inside : q < length all) where
+      here : Found q (u s q (drop q all)) given
+      here = found q (u s q (drop q all)) given is
 
-      turn_comma : (token_at all e).kind ≡ Comma → entries_left table m s q ≡ entries_left (put argument_width table m (argument_words a)) (m + 1) 0 (e + 1)
+      turn_comma : (token_at all given.end).kind ≡ Comma → entries_left table m s q ≡ entries_left (put argument_width table m (argument_record (reading_of given))) (m + 1) 0 (given.end + 1)
       turn_comma h =
           let ends = here.ends in
           let behind : (token_at all (q + here.size)).kind ≡ Comma = rw ends h in
-          left_step ends_list counts (λ n. separated (u n)) 7 row all table m s q (entry here.value true) (here.size + 1) (e + 1) inside
-          (ne_eqb _ _ off) (separated_at (u s) all q here.size here.value true here.is (eq-eqb _ _ behind)) (omega arith) (omega arith)
-          ∙ ap (λ b. entries_left (put argument_width table m (argument_words b)) (m + 1) 0 (e + 1)) here.same
+          left_step ends_list counts (λ n. separated (u n)) 7 row all table m s q (entry (reading_of given) true) (here.size + 1) (given.end + 1) inside
+          (ne_eqb _ _ off) (separated_at (u s) all q here.size (reading_of given) true here.is (eq-eqb _ _ behind)) (omega arith) (omega arith)
 
-      turn_alone : ((token_at all e).kind ≡ Comma → ⊥)
-          → entries_left table m s q ≡ entries_left (put argument_width table m (argument_words a)) (m + 1) (cond (eqb a.form 1) (suc s) s) e
+      turn_alone : ((token_at all given.end).kind ≡ Comma → ⊥)
+          → entries_left table m s q ≡ entries_left (put argument_width table m (argument_record (reading_of given))) (m + 1) (cond (eqb (form_number given.form) 1) (suc s) s) given.end
       turn_alone h =
           let ends = here.ends in
           let behind : (token_at all (q + here.size)).kind ≡ Comma → ⊥ = rw ends h in
-          left_step ends_list counts (λ n. separated (u n)) 7 row all table m s q (entry here.value false) (here.size + 0) e inside
-          (ne_eqb _ _ off) (separated_at (u s) all q here.size here.value false here.is (ne_eqb _ _ behind)) (omega arith) lt
-          ∙ ap (λ b. entries_left (put argument_width table m (argument_words b)) (m + 1) (cond (eqb b.form 1) (suc s) s) e) here.same
+          left_step ends_list counts (λ n. separated (u n)) 7 row all table m s q (entry (reading_of given) false) (here.size + 0) given.end inside
+          (ne_eqb _ _ off) (separated_at (u s) all q here.size (reading_of given) false here.is (ne_eqb _ _ behind)) (omega arith) lt
 
-    turn_refused : (x : Res reading.Argument) (c at : ℕ) → u s q (drop q all) ≡ x → arg_answer q x ≡ arg.Refused c at → entries_left table m s q ≡ refused c at
-    turn_refused (got a k) c at e h = absurd (let z : ◌≡◌ {A = ℕ} 0 1 = cc in omega arith)
-    turn_refused (bad y w) c at e h =
-        let n : number y ≡ c = cc in
-        let p : w + beyond y ≡ at = cc in
-        left_refused ends_list counts (λ n. separated (u n)) 7 row all table m s q y w (ne_eqb _ _ off) (refuses_too (u s) q (drop q all) y w e) ∙ cc
+    turn_refused : (x : Res reading.Argument) (f : ℕ × ℕ) → u s q (drop q all) ≡ x → Err f ≡ arg_answer q x → entries_left table m s q ≡ refused f.0 f.1
+    turn_refused (got a k) f e h = absurd (let z : ◌≡◌ {A = ℕ} 0 1 = cc in omega arith)
+    turn_refused (bad y w) f e h =
+        let same : ◌≡◌ {A = ℕ × ℕ} f (number y, w + beyond y) = cc in
+        left_refused ends_list counts (λ n. separated (u n)) 7 row all table m s q y w (ne_eqb _ _ off) (refuses_too (u s) q (drop q all) y w e)
+        ∙ sym (ap (λ f. refused f.0 f.1) same)
 
 -- ---- what the list answers
 
@@ -127,7 +125,7 @@ module _ (u : ℕ → ℕ → List Token → Res reading.Argument) (all : List T
       → p ≤ q
       → q < size
       → m + p ≤ n + q
-      → ListRead n p size (closed_list u p (drop p all)) table (lists.Done m (q + 1)) table'
+      → ListRead n p size (closed_list u p (drop p all)) table (Ok (record { arguments = m; end = q + 1 })) table'
   unfolding closed_list
   list_closed (bad y w) m q e h k from inside few = absurd (let z : ◌≡◌ {A = ℕ} 0 1 = cc in omega arith)
   list_closed (got es i) m q e h k from inside few =
@@ -147,11 +145,11 @@ module _ (u : ℕ → ℕ → List Token → Res reading.Argument) (all : List T
         within = (omega arith, omega arith, omega arith);
       })
 
-  list_refused : (x : Res (List Entry)) (c at : ℕ) → entries u p (drop p all) ≡ x → outcome 7 row table n p x ≡ refused c at
-      → ListRead n p size (closed_list u p (drop p all)) table (lists.Refused c at) table'
+  list_refused : (x : Res (List Entry)) (f : ℕ × ℕ) → entries u p (drop p all) ≡ x → outcome 7 row table n p x ≡ refused f.0 f.1
+      → ListRead n p size (closed_list u p (drop p all)) table (Err f) table'
   unfolding closed_list
-  list_refused (got es i) c at e h = absurd (let z : ◌≡◌ {A = ℕ} 0 1 = cc in omega arith)
-  list_refused (bad y w) c at e h =
+  list_refused (got es i) f e h = absurd (let z : ◌≡◌ {A = ℕ} 0 1 = cc in omega arith)
+  list_refused (bad y w) (c, at) e h =
       let c_is : c ≡ number y = cc in
       let at_is : at ≡ w + beyond y = cc in
       let reads : closed_list u p (drop p all) ≡ bad y w =
@@ -178,26 +176,26 @@ module _ {text tokens kept : List ℕ} {sort : Sort} {p : ℕ} {table₀ : List 
     open_here : (k ≡ CloseParen → ⊥) → (token_at (view text tokens kept) q).kind ≡ CloseParen → ⊥
     open_here h e = h (sym (kind_is text q here refl) ∙ e)
 
-    module _ (off : k ≡ CloseParen → ⊥) {r : Arg} (reads : ArgRead q (length kept) (one sort names q (drop q (view text tokens kept))) r) where
+    module _ (off : k ≡ CloseParen → ⊥) {r : Result Argument (ℕ × ℕ)} (reads : ArgRead q (length kept) (one sort names q (drop q (view text tokens kept))) r) where
       -- a turn; the table after it is what the code's write leaves
-      module _ {a : Argument} {e j : ℕ} {table' : List ℕ} (is : r ≡ arg.One a e) (there : KindAt tokens kept e j) (written : table' ≡ put argument_width table m (argument_words a)) where
+      module _ {given : Argument} {j : ℕ} {table' : List ℕ} (is : r ≡ Ok given) (there : KindAt tokens kept given.end j) (written : table' ≡ put argument_width table m (argument_record (reading_of given))) where
         inside_all : q < length (view text tokens kept)
         inside_all = rw view_length (omega (arith, argument_within is reads))
 
-        read_is : arg_answer q (one sort names q (drop q (view text tokens kept))) ≡ arg.One a e
-        read_is = sym reads.is ∙ is
+        read_is : Ok (reading_of given, given.end) ≡ arg_answer q (one sort names q (drop q (view text tokens kept)))
+        read_is = (rw is at reads).is
 
         length_is : length table' ≡ length table₀
-        length_is = ap length written ∙ put_length 7 table m (argument_words a) ∙ i.same
+        length_is = ap length written ∙ put_length 7 table m (argument_record (reading_of given)) ∙ i.same
 
-        pub listing_comma : j ≡ Comma → Listing text tokens kept sort p table₀ n table' (e + 1) (m + 1) 0
+        pub listing_comma : j ≡ Comma → Listing text tokens kept sort p table₀ n table' (given.end + 1) (m + 1) 0
         listing_comma c =
             let w = argument_within is reads in
             let here-e = there.inside in
             record {
               left =
-                  ap (λ t. entries_left (one sort) (view text tokens kept) t (m + 1) 0 (e + 1)) written
-                  ∙ sym (turn_comma (one sort) (view text tokens kept) table m names q (open_here off) a e read_is w.0 inside_all (kind_is text e there refl ∙ c))
+                  ap (λ t. entries_left (one sort) (view text tokens kept) t (m + 1) 0 (given.end + 1)) written
+                  ∙ sym (turn_comma (one sort) (view text tokens kept) table m names q (open_here off) given read_is w.0 inside_all (kind_is text given.end there refl ∙ c))
                   ∙ i.left;
               from = omega arith;
               inside = omega arith;
@@ -206,34 +204,39 @@ module _ {text tokens kept : List ℕ} {sort : Sort} {p : ℕ} {table₀ : List 
               same = length_is;
             }
 
-        pub listing_alone : {names' : ℕ} → (j ≡ Comma → ⊥) → names' ≡ cond (eqb a.form 1) (suc names) names → Listing text tokens kept sort p table₀ n table' e (m + 1) names'
+        pub listing_alone : {names' : ℕ} → (j ≡ Comma → ⊥) → names' ≡ cond (eqb (form_number given.form) 1) (suc names) names → Listing text tokens kept sort p table₀ n table' given.end (m + 1) names'
         listing_alone {names'} c named =
             let w = argument_within is reads in
             record {
               left =
-                  ap (λ t. entries_left (one sort) (view text tokens kept) t (m + 1) names' e) written
-                  ∙ ap (λ s. entries_left (one sort) (view text tokens kept) (put argument_width table m (argument_words a)) (m + 1) s e) named
-                  ∙ sym (turn_alone (one sort) (view text tokens kept) table m names q (open_here off) a e read_is w.0 inside_all (λ x. c (sym (kind_is text e there refl) ∙ x)))
+                  ap (λ t. entries_left (one sort) (view text tokens kept) t (m + 1) names' given.end) written
+                  ∙ ap (λ s. entries_left (one sort) (view text tokens kept) (put argument_width table m (argument_record (reading_of given))) (m + 1) s given.end) named
+                  ∙ sym (turn_alone (one sort) (view text tokens kept) table m names q (open_here off) given read_is w.0 inside_all (λ x. c (sym (kind_is text given.end there refl) ∙ x)))
                   ∙ i.left;
               from = omega arith;
               inside = omega arith;
-              few = omega (arith, one_more (eqb a.form 1) names);
+              few = omega (arith, one_more (eqb (form_number given.form) 1) names);
               records = omega arith;
               same = length_is;
             }
 
       -- an argument that is refused
-      pub listing_refused : {c at : ℕ} → r ≡ arg.Refused c at
-          → ListRead n p (length kept) (closed_list (one sort) p (drop p (view text tokens kept))) table₀ (lists.Refused c at) table
+      pub listing_refused : {f : ℕ × ℕ} → r ≡ Err f
+          → ListRead n p (length kept) (closed_list (one sort) p (drop p (view text tokens kept))) table₀ (Err f) table
       unfolding entries
-      listing_refused {c} {at} is =
-          list_refused (one sort) (view text tokens kept) n p (length kept) table₀ table _ c at refl
+      listing_refused {f} is =
+          list_refused (one sort) (view text tokens kept) n p (length kept) table₀ table _ f refl
           (sym i.left
-          ∙ turn_refused (one sort) (view text tokens kept) table m names q (open_here off) _ c at refl (sym reads.is ∙ is))
+          ∙ turn_refused (one sort) (view text tokens kept) table m names q (open_here off) _ f refl (rw is at reads).is)
+
+      -- and handed on
+      pub listing_handed : {f : ℕ × ℕ} {out : Result ArgList (ℕ × ℕ)} → r ≡ Err f → IsErrAnd out (λ y. y ≡ f)
+          → ListRead n p (length kept) (closed_list (one sort) p (drop p (view text tokens kept))) table₀ out table
+      listing_handed {f} {out} is handed = rw (handed_on out handed) (listing_refused is)
 
     -- the list's `)`
     pub listing_closed : k ≡ CloseParen
-        → ListRead n p (length kept) (closed_list (one sort) p (drop p (view text tokens kept))) table₀ (lists.Done m (q + 1)) table
+        → ListRead n p (length kept) (closed_list (one sort) p (drop p (view text tokens kept))) table₀ (Ok (record { arguments = m; end = q + 1 })) table
     unfolding entries
     listing_closed e =
         let close : (token_at (view text tokens kept) q).kind ≡ CloseParen = kind_is text q here refl ∙ e in
@@ -253,12 +256,12 @@ same_table : (x : Res (List reading.Argument)) (n : ℕ) (t t' : List ℕ) → W
 same_table (got xs k) n t t' h = h
 same_table (bad y w) n t t' h = h
 
-earlier : (n p size : ℕ) (r : ArgList) → ListWithin n (suc p) size r → ListWithin n p size r
-earlier n p size (lists.Done m e) h = (omega arith, h.1, omega arith)
-earlier n p size (lists.Refused c at) h = tt
+earlier : (n p size : ℕ) (r : Result ArgList (ℕ × ℕ)) → ListWithin n (suc p) size r → ListWithin n p size r
+earlier n p size (Ok l) h = (omega arith, h.1, omega arith)
+earlier n p size (Err (c, at)) h = tt
 
 -- the reader reads x behind one token
-pub behind : {n p size : ℕ} {t t' : List ℕ} {r : ArgList} {x : Res (List reading.Argument)} (f : ℕ → Res (List reading.Argument))
+pub behind : {n p size : ℕ} {t t' : List ℕ} {r : Result ArgList (ℕ × ℕ)} {x : Res (List reading.Argument)} (f : ℕ → Res (List reading.Argument))
     → x ≡ with_one_more (f (suc p))
     → ListRead n (p + 1) size (f (p + 1)) t r t'
     → ListRead n p size x t r t'
@@ -272,5 +275,14 @@ behind {n} {p} {size} {t} {t'} {r} f e h =
     })
 
 -- the reader refuses
-pub refuses : {n p size c q : ℕ} {t t' : List ℕ} {x : Res (List reading.Argument)} → x ≡ bad (plain c) q → ListRead n p size x t (lists.Refused c q) t'
-refuses {c = c} {q = q} e = rw e (record { is = ap (lists.Refused c) (sym (add-zero q)); records = tt; within = tt })
+pub refuses : {n p size c q : ℕ} {f : ℕ × ℕ} {t t' : List ℕ} {x : Res (List reading.Argument)} → x ≡ bad (plain c) q → f ≡ (c, q) → ListRead n p size x t (Err f) t'
+refuses {c = c} {q = q} e is = rw (e, is) (record { is = ap (λ k. Err (c, k)) (sym (add-zero q)); records = tt; within = tt })
+
+-- by the kind that was read where the `(` should stand
+module _ (source : Source) {p k : ℕ} (here : KindAt source.tokens.now source.kept.now p k) (sort : Sort) (n : ℕ) {t t' : List ℕ} where
+  pub list_unopened : {f : ℕ × ℕ} → (k ≡ OpenParen → ⊥) → f ≡ (1, p) → ListRead n p (count source) (expect OpenParen (plain 1) (λ o. closed_list (one sort)) p (all_from source p)) t (Err f) t'
+  list_unopened h same = refuses (expect_no p (all source) OpenParen (plain 1) (λ o. closed_list (one sort)) (λ e. h (sym (kind_is source.text.now p here refl) ∙ e))) same
+
+  pub list_opened : {r : Result ArgList (ℕ × ℕ)} → k ≡ OpenParen → ListRead n (p + 1) (count source) (closed_list (one sort) (p + 1) (all_from source (p + 1))) t r t'
+      → ListRead n p (count source) (expect OpenParen (plain 1) (λ o. closed_list (one sort)) p (all_from source p)) t r t'
+  list_opened e h = behind (λ q. closed_list (one sort) q (drop q (all source))) (expect_yes p (all source) OpenParen (plain 1) (λ o. closed_list (one sort)) (kind_is source.text.now p here refl ∙ e)) h

@@ -1,33 +1,46 @@
 // One argument of a list, read from its first token; nothing is written here.
-ghost use Rattle.std.specs.Prelude.{ℕ, suc, ◌<◌, ◌≤◌, List, ◌≡◌, length};
+ghost use Rattle.std.specs.Prelude.{ℕ, suc, ◌+◌, ◌<◌, ◌≤◌, List, ◌≡◌, MatchOption};
+ghost use Rattle.std.specs.Int.{from_bool};
 ghost use Rattle.tokens.specs.Number.{most_tokens};
-ghost use Rattle.tokens.specs.Kind.{Ident};
-ghost use Rattle.tokens.specs.Place.{kind_at, Place, tokens_from};
-ghost use Rattle.grammar.specs.Reading.{NONE, one_token, angled};
-ghost use Rattle.grammar.specs.Result.{got, with_one_more, look, seq};
-ghost use Rattle.grammar.specs.Reader.{call_argument, builtin_argument, name_argument, name_step};
-ghost use Rattle.grammar.specs.Typed.{declared, indexed_here, typed_name, typed_argument};
-ghost use Rattle.lists.specs.Answers.{arg_answer, ArgRead, RestRead, named, angled_rest, typed_rest, one};
+ghost use Rattle.tokens.specs.Place.{Place, tokens_from};
+ghost use Rattle.grammar.specs.Reading.{one_token, angled};
+ghost use Rattle.grammar.specs.Result.{got, with_one_more};
+ghost use Rattle.grammar.specs.Reader.{call_argument, builtin_argument, name_argument};
+ghost use Rattle.grammar.specs.Typed.{indexed_here, typed_argument};
+ghost use Rattle.lists.specs.Answers.{form_number, location_kind, NoLocation, reading_of, ArgRead, angled_rest, UntypedName, TypedName, one};
+ghost use Rattle.tokens.specs.Source.{all_from, count};
 
-use tokens::{is_reserved, kind, kind_at, number, text_at};
+use tokens::{Refusal, Source, Wrong, is_reserved, kind};
 
-// An argument's seven words.
-#[derive(Clone, Copy)]
-pub struct Argument {
-    pub form: u32,
-    pub ty: u32,
-    pub name: u32,
-    pub indexed: u32,
-    pub location: u32,
-    pub first: u32,
-    pub end: u32,
+// The forms of an argument, with their numbers in its record.
+#[derive(Clone, Copy, PartialEq, Eq)]
+pub enum Form {
+    Name = 1,
+    Str = 2,
+    Literal = 3,
+    CallLiteral = 4,
+    CallName = 5,
+    CallAngled = 6,
 }
 
-// An argument and the place behind it, or a refusal's number and cursor.
-#[derive(Drop)]
-pub enum Arg {
-    One(Argument, usize),
-    Refused(u32, usize),
+// The locations, with theirs.
+#[derive(Clone, Copy)]
+pub enum Location {
+    Calldata = 1,
+    Memory = 2,
+    Storage = 3,
+}
+
+// An argument: its places are words, as in its record; `end` is the place behind it.
+#[derive(Clone, Copy)]
+pub struct Argument {
+    pub form: Form,
+    pub ty: Option<u32>,
+    pub name: Option<u32>,
+    pub indexed: bool,
+    pub location: Option<Location>,
+    pub first: u32,
+    pub end: u32,
 }
 
 // The sorts of a list: a call's, a builtin's, a macro's, a typed one's, and an event's, which may have Indexed.
@@ -40,365 +53,208 @@ pub enum Sort {
     Event,
 }
 
-// An argument of one token.
-fn one_token(form: u32, p: usize) -> Arg
+// An argument of one token. That its place is below most_tokens is a clause, here and wherever a place becomes a word: the place is a usize and changes from call to call.
+fn one_token(form: Form, p: usize) -> Argument
     requires { p < most_tokens }
-    ensures { result ≡ arg_answer p (got (one_token form p) 1) }
+    ensures { reading_of result ≡ one_token (form_number form) p }
 {
     let at = p as u32;
-    Arg::One(
-        Argument {
-            form,
-            ty: number::NONE,
-            name: at,
-            indexed: 0,
-            location: number::LOCATION_NONE,
-            first: at,
-            end: at + 1,
-        },
-        p + 1,
-    )
+    Argument {
+        form,
+        ty: None,
+        name: Some(at),
+        indexed: false,
+        location: None,
+        first: at,
+        end: at + 1,
+    }
 }
 
 // A call's `<name>`, whose `<` stands at p.
-fn angled_call(p: usize) -> Arg
+fn angled_call(p: usize) -> Argument
     requires { p < most_tokens }
-    ensures { result ≡ arg_answer p (got (angled p) 3) }
+    ensures { reading_of result ≡ angled p }
 {
     let at = p as u32;
-    Arg::One(
-        Argument {
-            form: number::ARGUMENT_CALL_ANGLED,
-            ty: number::NONE,
-            name: at + 1,
-            indexed: 0,
-            location: number::LOCATION_NONE,
-            first: at,
-            end: at + 3,
-        },
-        p + 3,
-    )
-}
-
-// An untyped name at p, the last token of its argument.
-fn untyped(location: u32, first: usize, p: usize) -> Arg
-    requires { (first ≤ most_tokens) × (p < most_tokens) }
-    ensures { result ≡ arg_answer p (got (named location first p) 1) }
-{
-    let at = p as u32;
-    Arg::One(
-        Argument {
-            form: number::ARGUMENT_NAME,
-            ty: number::NONE,
-            name: at,
-            indexed: 0,
-            location,
-            first: first as u32,
-            end: at + 1,
-        },
-        p + 1,
-    )
-}
-
-// A declared argument with a type, which stands at its first place, and a name at p.
-fn typed(first: usize, indexed: u32, location: u32, p: usize) -> Arg
-    requires { (first ≤ most_tokens) × (p < most_tokens) }
-    ensures { result ≡ arg_answer p (got (declared first p indexed location (suc p)) 1) }
-{
-    let from = first as u32;
-    let at = p as u32;
-    Arg::One(
-        Argument {
-            form: number::ARGUMENT_NAME,
-            ty: from,
-            name: at,
-            indexed,
-            location,
-            first: from,
-            end: at + 1,
-        },
-        p + 1,
-    )
-}
-
-// The same without a name: p is the place behind its last token.
-fn unnamed(first: usize, indexed: u32, location: u32, p: usize) -> Arg
-    requires { (first ≤ most_tokens) × (p ≤ most_tokens) }
-    ensures { result ≡ arg_answer p (got (declared first NONE indexed location p) 0) }
-{
-    let from = first as u32;
-    Arg::One(
-        Argument {
-            form: number::ARGUMENT_NAME,
-            ty: from,
-            name: number::NONE,
-            indexed,
-            location,
-            first: from,
-            end: p as u32,
-        },
-        p,
-    )
-}
-
-// What stands behind a call's `<` at p, whatever the text.
-fn angled_rest(tokens: &[u32], kept: &[u32], p: usize) -> Arg
-    requires place { Place tokens.now kept.now p }
-    requires p_in_bounds { p < length kept.now }
-    ensures { (text : List ℕ) → ArgRead p (length kept.now)
-        (with_one_more (angled_rest p (suc p) (tokens_from text tokens.now kept.now (suc p)))) result }
-{
-    if kind_at(tokens, kept, p + 1) != kind::IDENT {
-        return Arg::Refused(number::UNEXPECTED_TYPE, p + 1);
+    Argument {
+        name: Some(at + 1),
+        end: at + 3,
+        ..one_token(Form::CallAngled, p)
     }
-    if kind_at(tokens, kept, p + 2) != kind::RIGHT_ANGLE {
-        return Arg::Refused(number::UNEXPECTED_TYPE, p + 2);
+}
+
+// What stands behind a call's `<` at p, whatever the text. `Place`, and that a token stands at p, are clauses here and below: facts of the list and of a place in it, and the
+// place changes from call to call, so that no value carries them.
+#[tactic(auto, using(crate::proofs::ArgumentLaws::angled_nameless, crate::proofs::ArgumentLaws::angled_open, crate::proofs::ArgumentLaws::angled_closed))]
+fn angled_rest(source: &Source, p: usize) -> Result<Argument, Refusal>
+    requires place { Place source.now.tokens.now source.now.kept.now p }
+    requires p_in_bounds { p < count source.now }
+    ensures { (text : List ℕ) → ArgRead p (count source.now)
+        (with_one_more (angled_rest p (suc p) (tokens_from text source.now.tokens.now source.now.kept.now (suc p)))) result }
+{
+    if source.kind_at(p + 1) != kind::IDENT {
+        return Err(Refusal::new(Wrong::UnexpectedType, p + 1));
     }
-    angled_call(p)
+    if source.kind_at(p + 2) != kind::RIGHT_ANGLE {
+        return Err(Refusal::new(Wrong::UnexpectedType, p + 2));
+    }
+    Ok(angled_call(p))
 }
 
 // An argument of a call, whatever the text.
-fn call_argument(tokens: &[u32], kept: &[u32], p: usize) -> Arg
-    requires { Place tokens.now kept.now p }
-    ensures { (text : List ℕ) → ArgRead p (length kept.now) (call_argument 0 p (tokens_from text tokens.now kept.now p)) result }
+#[tactic(auto, using(crate::proofs::ArgumentLaws::call_literal, crate::proofs::ArgumentLaws::call_named, crate::proofs::ArgumentLaws::call_refuses))]
+fn call_argument(source: &Source, p: usize) -> Result<Argument, Refusal>
+    requires { Place source.now.tokens.now source.now.kept.now p }
+    ensures { (text : List ℕ) → ArgRead p (count source.now) (call_argument 0 p (tokens_from text source.now.tokens.now source.now.kept.now p)) result }
 {
-    let k = kind_at(tokens, kept, p);
-    match k {
-        // Literal, Ident, Calldata, `<`
-        kind::LITERAL => one_token(number::ARGUMENT_CALL_LITERAL, p),
-        kind::IDENT => one_token(number::ARGUMENT_CALL_NAME, p),
-        kind::CALLDATA => one_token(number::ARGUMENT_CALL_NAME, p),
-        kind::LEFT_ANGLE => angled_rest(tokens, kept, p),
-        _ => Arg::Refused(number::INVALID_MACRO_ARGS, p),
+    match source.kind_at(p) {
+        kind::LITERAL => Ok(one_token(Form::CallLiteral, p)),
+        kind::IDENT | kind::CALLDATA => Ok(one_token(Form::CallName, p)),
+        kind::LEFT_ANGLE => angled_rest(source, p),
+        _ => Err(Refusal::new(Wrong::InvalidMacroArgs, p)),
     }
 }
 
-// An Ident at p as an untyped name: tested exactly when the names before it are odd in number.
-fn ident_here(
-    text: &[u8],
-    tokens: &[u32],
-    kept: &[u32],
-    names: usize,
-    location: u32,
-    first: usize,
-    p: usize,
-) -> Arg
-    requires place { Place tokens.now kept.now p }
-    requires first_le_p { first ≤ p }
-    requires p_in_bounds { (p < length kept.now) × (kind_at tokens.now kept.now p ≡ Ident) }
-    ensures { RestRead first p (length kept.now) (look (name_step names (named location first p)) p (tokens_from text.now tokens.now kept.now p)) result }
+// The location that a token of this kind is.
+fn location_of(k: u32) -> Option<Location>
+    ensures { MatchOption result (NoLocation k) (λ l. k ≡ location_kind l) }
 {
-    if names % 2 != 1 {
-        return untyped(location, first, p);
+    match k {
+        kind::CALLDATA => Some(Location::Calldata),
+        kind::MEMORY => Some(Location::Memory),
+        kind::STORAGE => Some(Location::Storage),
+        _ => None,
     }
-    if is_reserved(text_at(text, tokens, kept, p)) {
-        return Arg::Refused(number::INVALID_TYPE_AS_ARGUMENT_NAME, p);
-    }
-    untyped(location, first, p)
 }
 
-// The untyped name that should stand at p.
-fn name_here(
-    text: &[u8],
-    tokens: &[u32],
-    kept: &[u32],
-    names: usize,
-    location: u32,
-    first: usize,
-    p: usize,
-) -> Arg
-    requires place { Place tokens.now kept.now p }
-    requires first_le_p { first ≤ p }
-    ensures { RestRead first p (length kept.now) (look (name_step names (named location first p)) p (tokens_from text.now tokens.now kept.now p)) result }
+// Whether the untyped name that should stand at p does. An Ident is tested exactly when the names before it are odd in number.
+#[tactic(auto, using(crate::proofs::ArgumentLaws::name_ident_free, crate::proofs::ArgumentLaws::name_ident_tested, crate::proofs::ArgumentLaws::name_ident_refused, crate::proofs::ArgumentLaws::name_type_tested, crate::proofs::ArgumentLaws::name_type_refused))]
+fn untyped_name(source: &Source, names: usize, p: usize) -> Result<(), Refusal>
+    requires { Place source.now.tokens.now source.now.kept.now p }
+    ensures { UntypedName p (count source.now) names (all_from source.now p) result }
 {
-    let k = kind_at(tokens, kept, p);
-    match k {
-        // Ident, PrimitiveType, and a Comma, which is eaten before it is refused
-        kind::IDENT => ident_here(text, tokens, kept, names, location, first, p),
-        kind::PRIMITIVE_TYPE => {
-            if names % 2 == 1 {
-                Arg::Refused(number::INVALID_TYPE_AS_ARGUMENT_NAME, p)
+    match source.kind_at(p) {
+        kind::IDENT => {
+            if names % 2 == 1 && is_reserved(source.text_at(p)) {
+                Err(Refusal::new(Wrong::InvalidTypeAsArgumentName, p))
             } else {
-                Arg::Refused(number::UNEXPECTED_TYPE, p)
+                Ok(())
             }
         }
-        kind::COMMA => Arg::Refused(number::INVALID_ARGS, p + 1),
-        _ => Arg::Refused(number::INVALID_ARGS, p),
+        kind::PRIMITIVE_TYPE => {
+            if names % 2 == 1 {
+                Err(Refusal::new(Wrong::InvalidTypeAsArgumentName, p))
+            } else {
+                Err(Refusal::new(Wrong::UnexpectedType, p))
+            }
+        }
+        // a Comma is eaten before it is refused
+        kind::COMMA => Err(Refusal::new(Wrong::InvalidArgs, p + 1)),
+        _ => Err(Refusal::new(Wrong::InvalidArgs, p)),
     }
 }
 
 // An optional location, then a name.
-fn name_argument(text: &[u8], tokens: &[u32], kept: &[u32], names: usize, p: usize) -> Arg
-    requires { Place tokens.now kept.now p }
-    ensures { ArgRead p (length kept.now) (name_argument names p (tokens_from text.now tokens.now kept.now p)) result }
+fn name_argument(source: &Source, names: usize, p: usize) -> Result<Argument, Refusal>
+    requires { Place source.now.tokens.now source.now.kept.now p }
+    ensures { ArgRead p (count source.now) (name_argument names p (all_from source.now p)) result }
 {
-    let k = kind_at(tokens, kept, p);
-    match k {
-        // Calldata, Memory, Storage
-        kind::CALLDATA => name_here(
-            text,
-            tokens,
-            kept,
-            names,
-            number::LOCATION_CALLDATA,
-            p,
-            p + 1,
-        ),
-        kind::MEMORY => name_here(text, tokens, kept, names, number::LOCATION_MEMORY, p, p + 1),
-        kind::STORAGE => name_here(
-            text,
-            tokens,
-            kept,
-            names,
-            number::LOCATION_STORAGE,
-            p,
-            p + 1,
-        ),
-        _ => name_here(text, tokens, kept, names, number::LOCATION_NONE, p, p),
-    }
+    let location = location_of(source.kind_at(p));
+    let q = p + usize::from(location.is_some());
+    untyped_name(source, names, q)?;
+    Ok(Argument {
+        location,
+        first: p as u32,
+        ..one_token(Form::Name, q)
+    })
 }
 
 // An argument of a builtin.
-fn builtin_argument(text: &[u8], tokens: &[u32], kept: &[u32], names: usize, p: usize) -> Arg
-    requires { Place tokens.now kept.now p }
-    ensures { ArgRead p (length kept.now) (builtin_argument names p (tokens_from text.now tokens.now kept.now p)) result }
+#[tactic(auto, using(crate::proofs::ArgumentLaws::builtin_string, crate::proofs::ArgumentLaws::builtin_literal, crate::proofs::ArgumentLaws::builtin_name))]
+fn builtin_argument(source: &Source, names: usize, p: usize) -> Result<Argument, Refusal>
+    requires { Place source.now.tokens.now source.now.kept.now p }
+    ensures { ArgRead p (count source.now) (builtin_argument names p (all_from source.now p)) result }
 {
-    let k = kind_at(tokens, kept, p);
-    match k {
-        // Str, Literal
-        kind::STR => one_token(number::ARGUMENT_STRING, p),
-        kind::LITERAL => one_token(number::ARGUMENT_LITERAL, p),
-        _ => name_argument(text, tokens, kept, names, p),
+    match source.kind_at(p) {
+        kind::STR => Ok(one_token(Form::Str, p)),
+        kind::LITERAL => Ok(one_token(Form::Literal, p)),
+        _ => name_argument(source, names, p),
     }
 }
 
-// The name of a typed argument, if one stands at p.
-fn typed_name(
-    text: &[u8],
-    tokens: &[u32],
-    kept: &[u32],
-    first: usize,
-    indexed: u32,
-    location: u32,
-    p: usize,
-) -> Arg
-    requires place { Place tokens.now kept.now p }
-    requires first_lt_p { first < p }
-    ensures { RestRead first p (length kept.now) (typed_name first indexed location p (tokens_from text.now tokens.now kept.now p)) result }
+// Whether a typed argument's name stands at p.
+#[tactic(auto, using(crate::proofs::ArgumentLaws::typed_ident_stands, crate::proofs::ArgumentLaws::typed_ident_refused, crate::proofs::ArgumentLaws::typed_type_refused))]
+fn typed_name(source: &Source, p: usize) -> Result<bool, Refusal>
+    requires { Place source.now.tokens.now source.now.kept.now p }
+    ensures { TypedName p (count source.now) (all_from source.now p) result }
 {
-    let k = kind_at(tokens, kept, p);
-    match k {
-        // Ident, PrimitiveType
+    match source.kind_at(p) {
         kind::IDENT => {
-            if is_reserved(text_at(text, tokens, kept, p)) {
-                Arg::Refused(number::INVALID_TYPE_AS_ARGUMENT_NAME, p)
+            if is_reserved(source.text_at(p)) {
+                Err(Refusal::new(Wrong::InvalidTypeAsArgumentName, p))
             } else {
-                typed(first, indexed, location, p)
+                Ok(true)
             }
         }
-        kind::PRIMITIVE_TYPE => Arg::Refused(number::INVALID_TYPE_AS_ARGUMENT_NAME, p),
-        _ => unnamed(first, indexed, location, p),
+        kind::PRIMITIVE_TYPE => Err(Refusal::new(Wrong::InvalidTypeAsArgumentName, p)),
+        _ => Ok(false),
     }
 }
 
-// Its location, if one stands at p, and its name.
-fn typed_location(
-    text: &[u8],
-    tokens: &[u32],
-    kept: &[u32],
-    first: usize,
-    indexed: u32,
-    p: usize,
-) -> Arg
-    requires place { Place tokens.now kept.now p }
-    requires first_lt_p { first < p }
-    ensures { RestRead first p (length kept.now) (typed_rest first indexed p (tokens_from text.now tokens.now kept.now p)) result }
+// Whether Indexed stands at p, in events only.
+#[tactic(auto, using(crate::proofs::ArgumentLaws::indexed_is, crate::proofs::ArgumentLaws::not_in_events))]
+fn indexed_here(source: &Source, events: bool, p: usize) -> bool
+    requires { Place source.now.tokens.now source.now.kept.now p }
+    ensures inside { p + from_bool result ≤ count source.now }
+    ensures is { indexed_here events p (all_from source.now p) ≡ got (from_bool result) (from_bool result) }
 {
-    let k = kind_at(tokens, kept, p);
-    match k {
-        // Calldata, Memory, Storage
-        kind::CALLDATA => typed_name(
-            text,
-            tokens,
-            kept,
-            first,
-            indexed,
-            number::LOCATION_CALLDATA,
-            p + 1,
-        ),
-        kind::MEMORY => typed_name(
-            text,
-            tokens,
-            kept,
-            first,
-            indexed,
-            number::LOCATION_MEMORY,
-            p + 1,
-        ),
-        kind::STORAGE => typed_name(
-            text,
-            tokens,
-            kept,
-            first,
-            indexed,
-            number::LOCATION_STORAGE,
-            p + 1,
-        ),
-        _ => typed_name(text, tokens, kept, first, indexed, number::LOCATION_NONE, p),
-    }
+    events && source.kind_at(p) == kind::INDEXED
 }
 
-// Indexed, in events only, if it stands at p; its location and its name.
-fn typed_indexed(
-    text: &[u8],
-    tokens: &[u32],
-    kept: &[u32],
-    events: bool,
-    first: usize,
-    p: usize,
-) -> Arg
-    requires place { Place tokens.now kept.now p }
-    requires first_lt_p { first < p }
-    ensures { RestRead first p (length kept.now)
-        (seq (indexed_here events) (typed_rest first) p (tokens_from text.now tokens.now kept.now p)) result }
+// An argument of a typed list: a type, and behind it Indexed, a location and a name, each if it stands there.
+#[tactic(auto, using(crate::proofs::ArgumentLaws::typeless))]
+fn typed_argument(source: &Source, events: bool, p: usize) -> Result<Argument, Refusal>
+    requires { Place source.now.tokens.now source.now.kept.now p }
+    ensures { ArgRead p (count source.now) (typed_argument events 0 p (all_from source.now p)) result }
 {
-    if !events {
-        return typed_location(text, tokens, kept, first, 0, p);
+    if source.kind_at(p) != kind::PRIMITIVE_TYPE {
+        return Err(Refusal::new(Wrong::InvalidArgs, p));
     }
-    if kind_at(tokens, kept, p) != kind::INDEXED {
-        return typed_location(text, tokens, kept, first, 0, p);
-    }
-    typed_location(text, tokens, kept, first, 1, p + 1)
-}
-
-// An argument of a typed list: a type, and what may stand behind it.
-fn typed_argument(text: &[u8], tokens: &[u32], kept: &[u32], events: bool, p: usize) -> Arg
-    requires { Place tokens.now kept.now p }
-    ensures { ArgRead p (length kept.now) (typed_argument events 0 p (tokens_from text.now tokens.now kept.now p)) result }
-{
-    if kind_at(tokens, kept, p) != kind::PRIMITIVE_TYPE {
-        return Arg::Refused(number::INVALID_ARGS, p);
-    }
-    typed_indexed(text, tokens, kept, events, p, p + 1)
+    let indexed = indexed_here(source, events, p + 1);
+    let behind = p + 1 + usize::from(indexed);
+    let location = location_of(source.kind_at(behind));
+    let q = behind + usize::from(location.is_some());
+    let named = typed_name(source, q)?;
+    let from = p as u32;
+    let at = q as u32;
+    Ok(Argument {
+        form: Form::Name,
+        ty: Some(from),
+        name: named.then_some(at),
+        indexed,
+        location,
+        first: from,
+        end: at + u32::from(named),
+    })
 }
 
 // One argument of a list of this sort, with `names` names before it since the opening or the last Comma.
+#[tactic(auto, using(crate::proofs::ArgumentLaws::sorted, crate::proofs::ArgumentLaws::sorted_typed, crate::proofs::ArgumentLaws::sorted_event))]
 pub fn one_argument(
-    text: &[u8],
-    tokens: &[u32],
-    kept: &[u32],
+    source: &Source,
     sort: Sort,
     names: usize,
     p: usize,
-) -> Arg
-    requires { Place tokens.now kept.now p }
-    ensures { ArgRead p (length kept.now) (one sort names p (tokens_from text.now tokens.now kept.now p)) result }
+) -> Result<Argument, Refusal>
+    requires { Place source.now.tokens.now source.now.kept.now p }
+    ensures { ArgRead p (count source.now) (one sort names p (all_from source.now p)) result }
 {
+    // A match and no closure for the reader: two crates name the sort, and a definition (`one`) goes by it.
     match sort {
-        Sort::Call => call_argument(tokens, kept, p),
-        Sort::Builtin => builtin_argument(text, tokens, kept, names, p),
-        Sort::Macro => name_argument(text, tokens, kept, names, p),
-        Sort::Typed => typed_argument(text, tokens, kept, false, p),
-        Sort::Event => typed_argument(text, tokens, kept, true, p),
+        Sort::Call => call_argument(source, p),
+        Sort::Builtin => builtin_argument(source, names, p),
+        Sort::Macro => name_argument(source, names, p),
+        Sort::Typed => typed_argument(source, false, p),
+        Sort::Event => typed_argument(source, true, p),
     }
 }

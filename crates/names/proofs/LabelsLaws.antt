@@ -1,7 +1,7 @@
 -- Laws of the walk over a body's labels, a token at a time, and what holds at each turn of it. Assumes nothing.
 use Prim.Native.Nat.{ℕ, suc, ◌+◌, ◌-◌, ◌*◌, ◌≤◌, ◌<◌}
 use mathlib.Core.Path.{◌≡◌, refl, sym, ap, ◌∙◌}
-use mathlib.Core.Bool.{true, false, cond}
+use mathlib.Core.Bool.{Bool, true, false, cond}
 use mathlib.Core.List.{List, ◌∷◌}
 use mathlib.Core.Logic.{⊎_elim}
 use native.Mathlib.Omega.{arith}
@@ -18,8 +18,7 @@ use Rattle.tokens.specs.Name.{one_of}
 use Rattle.tokens.proofs.Laws.{lt_or_le, left_step, left_none}
 use Rattle.tokens.proofs.TokenLaws.{view_kind}
 use Rattle.grammar.specs.Again.{again, first_again}
-use Rattle.names.specs.Names.{names_at, Noted, Fresh, Noting}
-use Rattle.names.proofs.NamesLaws.{fresh_noted}
+use Rattle.names.specs.Names.{Seen, Fresh, Checked}
 
 -- ---- a token at a time
 
@@ -77,33 +76,21 @@ module _ (all : List Token) (to : ℕ) where
 
 -- ---- the loop of walk
 
--- what is found from place q on is what is found from the start; what is remembered of names; and how many they are
-pub record Walk (text words kept heads₀ next₀ places₀ heads next places : List ℕ) (from to q n : ℕ) : Type 0 where
-  pub ends : found (view text words kept) to (names_at (view text words kept) places n) q ≡ first_again (view text words kept) from to
-  pub noted : Noted (view text words kept) heads next places n
-  pub names : from + 2 * n ≤ q
-  pub same_heads : length heads ≡ length heads₀
-  pub same_next : length next ≡ length next₀
-  pub same_places : length places ≡ length places₀
+-- what is found from place q on is what is found from the start; of which tokens names are remembered; how many they are, and how many there is room for
+pub record Walk (all : List Token) (size : ℕ) (now : Seen) (from to q : ℕ) : Type 0 where
+  pub same : now.tokens ≡ all
+  pub room : now.room ≡ size
+  pub ends : found all to now.names q ≡ first_again all from to
+  pub few : from + 2 * length now.names ≤ q
 
 -- at the start no name is remembered
-pub walk_begins : (text words kept heads next places : List ℕ) (from to : ℕ) → Fresh 2 (to - from) heads next places
-    → Walk text words kept heads next places heads next places from to from 0
-unfolding names_at
-walk_begins text words kept heads next places from to room =
-    record {
-      ends = refl;
-      noted = fresh_noted (view text words kept) room;
-      names = omega arith;
-      same_heads = refl;
-      same_next = refl;
-      same_places = refl;
-    }
+pub walk_begins : (all : List Token) (from to : ℕ) {now : Seen} → Fresh 2 (to - from) all now → Walk all now.room now from to from
+walk_begins all from to room = record { same = room.same; room = refl; ends = rw room.fresh refl; few = rw room.fresh (omega arith) }
 
-module _ {text words kept heads₀ next₀ places₀ heads next places : List ℕ} {from to q n : ℕ} (walk : Walk text words kept heads₀ next₀ places₀ heads next places from to q n) where
+module _ (text words kept : List ℕ) {room : ℕ} {now : Seen} {from to q : ℕ} (walk : Walk (view text words kept) room now from to q) where
   -- no token is left
   pub walk_ends : to ≤ q → q ≡ first_again (view text words kept) from to
-  walk_ends le = sym (found_none (view text words kept) to (names_at (view text words kept) places n) q le) ∙ walk.ends
+  walk_ends le = sym (found_none (view text words kept) to now.names q le) ∙ walk.ends
 
   module _ (lt : q < to) {k : ℕ} (kind : KindAt words kept q k) where
     -- the kind that was read is the token's
@@ -111,37 +98,32 @@ module _ {text words kept heads₀ next₀ places₀ heads next places : List �
     here = view_kind text words kept q ∙ sym kind.is
 
     -- a token that is no Label
-    pub walk_other : (k ≡ Label → ⊥) → Walk text words kept heads₀ next₀ places₀ heads next places from to (q + 1) n
+    pub walk_other : (k ≡ Label → ⊥) → Walk (view text words kept) room now from to (q + 1)
     walk_other other =
         record {
-          ends = sym (found_other (view text words kept) to (names_at (view text words kept) places n) q lt (λ e. other (sym here ∙ e))) ∙ walk.ends;
-          noted = walk.noted;
-          names = omega (arith, walk.names);
-          same_heads = walk.same_heads;
-          same_next = walk.same_next;
-          same_places = walk.same_places;
+          same = walk.same;
+          room = walk.room;
+          ends = sym (found_other (view text words kept) to now.names q lt (λ e. other (sym here ∙ e))) ∙ walk.ends;
+          few = omega (arith, walk.few);
         }
 
-    module _ (label : k ≡ Label) where
+    module _ (label : k ≡ Label) {r : Bool} {after : Seen} (checked : Checked (token_at now.tokens q).text now r after) where
+      -- the test is that of the name at q
+      asked : r ≡ one_of now.names (token_at (view text words kept) q).text
+      asked = rw walk.same at checked.is
+
       -- a Label whose name stands again
-      pub walk_found : true ≡ one_of (names_at (view text words kept) places n) (token_at (view text words kept) q).text → q ≡ first_again (view text words kept) from to
-      walk_found old =
-          sym (found_again (view text words kept) to (names_at (view text words kept) places n) q lt (here ∙ label) (sym old)) ∙ walk.ends
+      pub walk_found : r ≡ true → q ≡ first_again (view text words kept) from to
+      walk_found old = sym (found_again (view text words kept) to now.names q lt (here ∙ label) (sym asked ∙ old)) ∙ walk.ends
 
       -- a Label of a new name
-      pub walk_new : {heads' next' places' : List ℕ} → false ≡ one_of (names_at (view text words kept) places n) (token_at (view text words kept) q).text
-          → Noting false (view text words kept) (token_at (view text words kept) q).text places n heads' next' places' (suc n)
-          → length heads' ≡ length heads → length next' ≡ length next → length places' ≡ length places
-          → Walk text words kept heads₀ next₀ places₀ heads' next' places' from to (q + 2) (n + 1)
-      walk_new new noting x y z =
-          rw (add-one n)
+      pub walk_new : r ≡ false → Walk (view text words kept) room after from to (q + 2)
+      walk_new new =
+          let then : after ≡ record { tokens = view text words kept; names = (token_at (view text words kept) q).text ∷ now.names; room = room } = rw (new, walk.same, walk.room) at checked.then in
+          rw then
           record {
-            ends =
-                rw noting.1
-                (sym (found_new (view text words kept) to (names_at (view text words kept) places n) q lt (here ∙ label) (sym new)) ∙ walk.ends);
-            noted = noting.0;
-            names = omega (arith, walk.names);
-            same_heads = x ∙ walk.same_heads;
-            same_next = y ∙ walk.same_next;
-            same_places = z ∙ walk.same_places;
+            same = refl;
+            room = refl;
+            ends = sym (found_new (view text words kept) to now.names q lt (here ∙ label) (sym asked ∙ new)) ∙ walk.ends;
+            few = omega (arith, walk.few);
           }

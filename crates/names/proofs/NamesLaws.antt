@@ -1,6 +1,6 @@
 -- Laws of remembered names: the hash by four bytes and by those that are left, the walk a name at a time, buckets, the walk of a bucket, one name more. Assumes
 -- nothing.
-use Prim.Native.Nat.{ℕ, zero, suc, ◌+◌, ◌-◌, ◌*◌, ◌≤◌, ◌<◌}
+use Prim.Native.Nat.{ℕ, zero, suc, ◌+◌, ◌-◌, ◌*◌, ◌/◌, ◌≤◌, ◌<◌}
 use mathlib.Core.Path.{◌≡◌, refl, sym, ap, ◌∙◌}
 use mathlib.Core.Bool.{Bool, true, false, cond}
 use mathlib.Core.List.{List, [], ◌∷◌}
@@ -11,8 +11,10 @@ use native.Mathlib.Numerals.{add-one}
 use borrow.Author.Tests.{eqb-true, eqb-false}
 use lib.Dec.{eqb}
 use lib.Bits.{and_le_r}
-use lib.ListN.{length, get_or, drop, set, replicate, length-set, length-drop, length-replicate, get_or-replicate, drop_of_length-le}
-use lib.Seq.{drop-cons, get_or-set_same, get_or-set_other}
+use lib.ListN.{length, get_or, take, drop, set, replicate, length-set, length-drop, get_or-replicate}
+use lib.Seq.{drop-drop, get_or-set_same, get_or-set_other}
+use Rattle.std.specs.Int.{w32, from_le_bytes}
+use Rattle.std.specs.Simd.{first_chunks}
 use Rattle.tokens.specs.Number.{most_tokens}
 use Rattle.tokens.specs.Token.{Token, token_at, view}
 use Rattle.tokens.specs.Place.{text_at}
@@ -20,7 +22,7 @@ use Rattle.tokens.specs.Byte.{same}
 use Rattle.tokens.specs.Name.{one_of}
 use Rattle.tokens.proofs.NameLaws.{same_equal}
 use Rattle.tokens.proofs.TokenLaws.{view_text}
-use Rattle.names.specs.Names.{mixed, four_at, rest_of, hash_from, hash_of, bucket_in, bucket_of, tag_of, note_of, place_of, name_at, names_at, latest, Noted, Fresh, Noting}
+use Rattle.names.specs.Names.{mixed, four_of, rest_of, hash_from, hash_of, bucket_in, bucket_of, tag_of, note_of, place_of, name_at, names_at, latest, Noted}
 
 -- ---- the hash
 
@@ -28,56 +30,64 @@ pub mixed_small : (h : ℕ) → mixed h < 4294967296
 unfolding mixed
 mixed_small h = omega arith
 
--- the bytes from j on are the one at j and those behind it
-next_byte : (name : List ℕ) (j k : ℕ) → j < length name → k ≡ suc j → drop j name ≡ get_or name j 0 ∷ drop k name
-next_byte name j k lt e = rw e (drop-cons name j 0 lt)
-
-three_bytes : (i : ℕ) (name : List ℕ) → i + 3 ≤ length name → drop i name ≡ get_or name i 0 ∷ get_or name (i + 1) 0 ∷ get_or name (i + 2) 0 ∷ drop (i + 3) name
-three_bytes i name le =
-    next_byte name i (i + 1) (omega arith) (omega arith)
-    ∙ ap (λ (l : List ℕ). get_or name i 0 ∷ l)
-    (next_byte name (i + 1) (i + 2) (omega arith) (omega arith)
-    ∙ ap (λ (l : List ℕ). get_or name (i + 1) 0 ∷ l) (next_byte name (i + 2) (i + 3) (omega arith) (omega arith)))
+-- the chunks of four bytes: number i begins at byte i * 4
+four_chunk : (k i : ℕ) (name : List ℕ) → i < k → get_or (first_chunks 4 k name) i [] ≡ take 4 (drop (i * 4) name)
+four_chunk zero i name lt = elim lt [ ]
+four_chunk (suc k) zero name lt = refl
+four_chunk (suc k) (suc i) name lt =
+    let at : 4 + i * 4 ≡ suc i * 4 = omega arith in
+    four_chunk k i (drop 4 name) (omega arith) ∙ ap (take 4) (drop-drop (i * 4) 4 name ∙ ap (λ (j : ℕ). drop j name) at)
 
 -- four bytes more
-pub hash_four : (h i : ℕ) (name : List ℕ) → i + 4 ≤ length name → hash_from (mixed (h + four_at name i)) (drop (i + 4) name) ≡ hash_from h (drop i name)
+four_more : (h : ℕ) (bs : List ℕ) → 4 ≤ length bs → hash_from (mixed (h + from_le_bytes w32 (take 4 bs))) (drop 4 bs) ≡ hash_from h bs
+unfolding hash_from four_of
+four_more h [] le = absurd (omega (arith, le))
+four_more h (a ∷ []) le = absurd (omega (arith, le))
+four_more h (a ∷ b ∷ []) le = absurd (omega (arith, le))
+four_more h (a ∷ b ∷ c ∷ []) le = absurd (omega (arith, le))
+four_more h (a ∷ b ∷ c ∷ d ∷ bs) le = refl
+
+-- of chunk i, as the code reads it
+pub hash_four : (h i : ℕ) (name : List ℕ) (fours : List (List ℕ)) {x m : ℕ} → fours ≡ first_chunks 4 (length name / 4) name → i < length name / 4
+    → x ≡ from_le_bytes w32 (get_or fours i []) → m ≡ mixed (h + x) → hash_from m (drop ((i + 1) * 4) name) ≡ hash_from h (drop (i * 4) name)
+hash_four h i name fours chunks lt read mixed_in =
+    let next : i * 4 + 4 ≡ (i + 1) * 4 = omega arith in
+    let four : get_or fours i [] ≡ take 4 (drop (i * 4) name) = ap (λ (l : List (List ℕ)). get_or l i []) chunks ∙ four_chunk (length name / 4) i name lt in
+    rw (← next, ← drop-drop 4 (i * 4) name, mixed_in, read, four) (four_more h (drop (i * 4) name) (omega (arith, length-drop (i * 4) name)))
+
+-- fewer than four bytes as one number
+pub rest_none : (bs : List ℕ) → length bs < 1 → 0 ≡ rest_of bs
+unfolding rest_of
+rest_none [] lt = refl
+rest_none (a ∷ bs) lt = absurd (omega (arith, lt))
+
+pub rest_one : (bs : List ℕ) → 1 ≤ length bs → length bs < 2 → get_or bs 0 0 ≡ rest_of bs
+unfolding rest_of
+rest_one [] le lt = absurd (omega (arith, le))
+rest_one (a ∷ []) le lt = refl
+rest_one (a ∷ b ∷ bs) le lt = absurd (omega (arith, lt))
+
+pub rest_two : (bs : List ℕ) → 2 ≤ length bs → length bs < 3 → get_or bs 0 0 * 256 + get_or bs 1 0 ≡ rest_of bs
+unfolding rest_of
+rest_two [] le lt = absurd (omega (arith, le))
+rest_two (a ∷ []) le lt = absurd (omega (arith, le))
+rest_two (a ∷ b ∷ []) le lt = refl
+rest_two (a ∷ b ∷ c ∷ bs) le lt = absurd (omega (arith, lt))
+
+pub rest_three : (bs : List ℕ) → 3 ≤ length bs → (get_or bs 0 0 * 256 + get_or bs 1 0) * 256 + get_or bs 2 0 ≡ rest_of bs
+unfolding rest_of
+rest_three [] le = absurd (omega (arith, le))
+rest_three (a ∷ []) le = absurd (omega (arith, le))
+rest_three (a ∷ b ∷ []) le = absurd (omega (arith, le))
+rest_three (a ∷ b ∷ c ∷ bs) le = refl
+
+pub hash_end : (h : ℕ) (bs : List ℕ) → length bs < 4 → mixed (h + rest_of bs) ≡ hash_from h bs
 unfolding hash_from
-hash_four h i name le = rw (three_bytes i name (omega arith), next_byte name (i + 3) (i + 4) (omega arith) (omega arith)) refl
-
--- none, one, two or three bytes are left
-pub rest_none : (i : ℕ) (name : List ℕ) → length name ≤ i → 0 ≡ rest_of (drop i name)
-unfolding rest_of
-rest_none i name le = rw (drop_of_length-le name le) refl
-
-pub rest_one : (i : ℕ) (name : List ℕ) → length name ≡ i + 1 → get_or name i 0 ≡ rest_of (drop i name)
-unfolding rest_of
-rest_one i name e = rw (next_byte name i (i + 1) (omega arith) (omega arith), drop_of_length-le name {i = i + 1} (omega arith)) refl
-
-pub rest_two : (i : ℕ) (name : List ℕ) → length name ≡ i + 2 → get_or name i 0 * 256 + get_or name (i + 1) 0 ≡ rest_of (drop i name)
-unfolding rest_of
-rest_two i name e =
-    rw
-    (next_byte name i (i + 1) (omega arith) (omega arith), next_byte name (i + 1) (i + 2) (omega arith) (omega arith), drop_of_length-le name {i = i + 2} (omega arith))
-    refl
-
-pub rest_three : (i : ℕ) (name : List ℕ) → i + 3 ≤ length name → (get_or name i 0 * 256 + get_or name (i + 1) 0) * 256 + get_or name (i + 2) 0 ≡ rest_of (drop i name)
-unfolding rest_of
-rest_three i name le = rw (three_bytes i name le) refl
-
--- fewer than four bytes are left
-few : (h : ℕ) (bs : List ℕ) → length bs < 4 → mixed (h + rest_of bs) ≡ hash_from h bs
-unfolding hash_from
-few h [] lt = refl
-few h (a ∷ []) lt = refl
-few h (a ∷ b ∷ []) lt = refl
-few h (a ∷ b ∷ c ∷ []) lt = refl
-few h (a ∷ b ∷ c ∷ d ∷ bs) lt = absurd (none (length bs) lt)
-  where
-    none : (n : ℕ) → suc (suc (suc (suc n))) < 4 → ⊥
-    none n lt = omega arith
-
-pub hash_end : (h i : ℕ) (name : List ℕ) → length name < i + 4 → mixed (h + rest_of (drop i name)) ≡ hash_from h (drop i name)
-hash_end h i name lt = few h (drop i name) (omega (arith, length-drop i name))
+hash_end h [] lt = refl
+hash_end h (a ∷ []) lt = refl
+hash_end h (a ∷ b ∷ []) lt = refl
+hash_end h (a ∷ b ∷ c ∷ []) lt = refl
+hash_end h (a ∷ b ∷ c ∷ d ∷ bs) lt = absurd (omega (arith, lt))
 
 -- ---- the walk
 
@@ -214,24 +224,28 @@ bucket_last {heads = heads} name noted hashed is = rw (is, hashed) (noted.head (
 
 -- ---- room
 
--- b buckets of zeros, and k places and links that hold anything, are room for so many tokens
-pub fresh_room : (each tokens b k x y : ℕ) → 1 ≤ b → tokens ≤ each * k → Fresh each tokens (replicate b 0) (replicate k x) (replicate k y)
-fresh_room each tokens b k x y some h =
-    record {
-      some = rw length-replicate some;
-      fresh = λ j lt. get_or-replicate b j 0 0 (rw length-replicate at lt);
-      linked = rw length-replicate h;
-      placed = rw length-replicate h;
-    }
-
--- in it no name is remembered
-pub fresh_noted : {each tokens : ℕ} {heads next places : List ℕ} (all : List Token) → Fresh each tokens heads next places → Noted all heads next places 0
+-- in buckets of zeros no name is remembered, whatever the places and links hold
+pub fresh_noted : (all : List Token) (heads next places : List ℕ) → 1 ≤ length heads → heads ≡ replicate (length heads) 0 → Noted all heads next places 0
 unfolding latest
-fresh_noted all room =
-    record { placed = omega arith; linked = omega arith; some = room.some; head = room.fresh; link = λ j h. absurd (none j h); tag = λ j h. absurd (none j h) }
+fresh_noted all heads next places some zeros =
+    record {
+      placed = omega arith;
+      linked = omega arith;
+      some = some;
+      head = λ j lt. ap (λ (l : List ℕ). get_or l j 0) zeros ∙ get_or-replicate (length heads) j 0 0 lt;
+      link = λ j h. absurd (none j h);
+      tag = λ j h. absurd (none j h);
+    }
   where
     none : (j : ℕ) → j < 0 → ⊥
     none j h = omega arith
+
+-- ---- how many names
+
+pub names_length : (all : List Token) (places : List ℕ) (n : ℕ) → length (names_at all places n) ≡ n
+unfolding names_at
+names_length all places zero = refl
+names_length all places (suc n) = ap suc (names_length all places n)
 
 -- ---- one name more
 
@@ -249,6 +263,46 @@ note_place h p few = omega arith
 note_tag : (h p : ℕ) → p < most_tokens → tag_of (note_of h p) ≡ tag_of h
 note_tag h p few = omega arith
 
+-- what was remembered before stays, whatever stands at number n: a name, the names, the last of a bucket
+module _ (all : List Token) (places : List ℕ) (n w : ℕ) where
+  earlier : (j : ℕ) → j < n → name_at all (set places n w) j ≡ name_at all places j
+  earlier j lt = ap (λ (q : ℕ). (token_at all (place_of q)).text) (get_or-set_other places n j w 0 (apart j n lt))
+
+  earlier_names : (k : ℕ) → k ≤ n → names_at all (set places n w) k ≡ names_at all places k
+  unfolding names_at
+  earlier_names zero le = refl
+  earlier_names (suc k) le = rw (earlier k (omega arith), earlier_names k (omega arith))
+
+  earlier_latest : (size b k : ℕ) → k ≤ n → latest size all (set places n w) b k ≡ latest size all places b k
+  unfolding latest
+  earlier_latest size b zero le = refl
+  earlier_latest size b (suc k) le = rw (earlier k (omega arith), earlier_latest size b k (omega arith))
+
+-- a link or a place behind the n names is of no account
+pub link_behind : {all : List Token} {heads next places : List ℕ} {n : ℕ} (v : ℕ) → Noted all heads next places n → Noted all heads (set next n v) places n
+link_behind {next = next} {n = n} v noted =
+    record {
+      placed = noted.placed;
+      linked = rw length-set noted.linked;
+      some = noted.some;
+      head = noted.head;
+      link = λ j lt. get_or-set_other next n j v 0 (apart j n lt) ∙ noted.link j lt;
+      tag = noted.tag;
+    }
+
+pub place_behind : {all : List Token} {heads next places : List ℕ} {n : ℕ} (w : ℕ) → Noted all heads next places n → Noted all heads next (set places n w) n
+place_behind {all} {heads} {next} {places} {n} w noted =
+    record {
+      placed = rw length-set noted.placed;
+      linked = noted.linked;
+      some = noted.some;
+      head = λ b lt. noted.head b lt ∙ sym (earlier_latest all places n w (length heads) b n (omega arith));
+      link = λ j lt.
+          rw (earlier all places n w j lt)
+          (noted.link j lt ∙ sym (earlier_latest all places n w (length heads) (bucket_of (length heads) (name_at all places j)) j (omega arith)));
+      tag = λ j lt. rw (earlier all places n w j lt) (ap tag_of (get_or-set_other places n j w 0 (apart j n lt)) ∙ noted.tag j lt);
+    }
+
 module _ (all : List Token) (heads next places : List ℕ) (n p : ℕ) where
   -- the bucket of the new name
   abbrev here : ℕ
@@ -265,20 +319,6 @@ module _ (all : List Token) (heads next places : List ℕ) (n p : ℕ) where
 
   abbrev places' : List ℕ
   places' = set places n note
-
-  -- what was remembered before stays: a name, the names, the last of a bucket
-  earlier : (j : ℕ) → j < n → name_at all places' j ≡ name_at all places j
-  earlier j lt = ap (λ (q : ℕ). (token_at all (place_of q)).text) (get_or-set_other places n j note 0 (apart j n lt))
-
-  earlier_names : (k : ℕ) → k ≤ n → names_at all places' k ≡ names_at all places k
-  unfolding names_at
-  earlier_names zero le = refl
-  earlier_names (suc k) le = rw (earlier k (omega arith), earlier_names k (omega arith))
-
-  earlier_latest : (size b k : ℕ) → k ≤ n → latest size all places' b k ≡ latest size all places b k
-  unfolding latest
-  earlier_latest size b zero le = refl
-  earlier_latest size b (suc k) le = rw (earlier k (omega arith), earlier_latest size b k (omega arith))
 
   module _ (noted : Noted all heads next places n) (room : n < length next) (room' : n < length places) (few : p < most_tokens) where
     -- what is remembered now is the name at p
@@ -300,19 +340,19 @@ module _ (all : List Token) (heads next places : List ℕ) (n p : ℕ) where
         go true x = rw (newest, x, ← eqb-true here b x) (get_or-set_same heads here (suc n) 0 inside)
         go false x =
             rw (newest, x)
-            (get_or-set_other heads here b (suc n) 0 (λ e. eqb-false here b x (sym e)) ∙ noted.head b lt ∙ sym (earlier_latest (length heads) b n (omega arith)))
+            (get_or-set_other heads here b (suc n) 0 (λ e. eqb-false here b x (sym e)) ∙ noted.head b lt ∙ sym (earlier_latest all places n note (length heads) b n (omega arith)))
 
     -- it leads to the one that was the last
     link' : (j : ℕ) → j < suc n → get_or next' j 0 ≡ latest (length heads) all places' (bucket_of (length heads) (name_at all places' j)) j
     link' j lt =
         ⊎_elim
         (λ (e : j ≡ n).
-        rw (e, newest) (get_or-set_same next n (get_or heads here 0) 0 room ∙ noted.head here inside ∙ sym (earlier_latest (length heads) here n (omega arith))))
+        rw (e, newest) (get_or-set_same next n (get_or heads here 0) 0 room ∙ noted.head here inside ∙ sym (earlier_latest all places n note (length heads) here n (omega arith))))
         (λ (l : j < n).
-        rw (earlier j l)
+        rw (earlier all places n note j l)
         (get_or-set_other next n j (get_or heads here 0) 0 (apart j n l)
         ∙ noted.link j l
-        ∙ sym (earlier_latest (length heads) (bucket_of (length heads) (name_at all places j)) j (omega arith))))
+        ∙ sym (earlier_latest all places n note (length heads) (bucket_of (length heads) (name_at all places j)) j (omega arith))))
         (eq-or-lt_of_le (down j n lt))
 
     -- its tag stands beside it
@@ -320,11 +360,11 @@ module _ (all : List Token) (heads next places : List ℕ) (n p : ℕ) where
     tag' j lt =
         ⊎_elim
         (λ (e : j ≡ n). rw (e, newest) (ap tag_of (get_or-set_same places n note 0 room') ∙ note_tag (hash_of (token_at all p).text) p few))
-        (λ (l : j < n). rw (earlier j l) (ap tag_of (get_or-set_other places n j note 0 (apart j n l)) ∙ noted.tag j l))
+        (λ (l : j < n). rw (earlier all places n note j l) (ap tag_of (get_or-set_other places n j note 0 (apart j n l)) ∙ noted.tag j l))
         (eq-or-lt_of_le (down j n lt))
 
     -- one name more is remembered
-    noted_more : Noting false all (token_at all p).text places n heads' next' places' (suc n)
+    noted_more : Noted all heads' next' places' (suc n) × (names_at all places' (suc n) ≡ (token_at all p).text ∷ names_at all places n)
     unfolding names_at
     noted_more = (
       record {
@@ -335,15 +375,12 @@ module _ (all : List Token) (heads next places : List ℕ) (n p : ℕ) where
         link = rw (length-set heads here (suc n)) link';
         tag = tag';
       },
-      rw (newest, earlier_names n (omega arith)),
+      rw (newest, earlier_names all places n note n (omega arith)),
     )
 
 -- the same of what the code stores
-pub remembered : (text words kept heads next places : List ℕ) (n p h b : ℕ) (name x y z : List ℕ)
-    → Noted (view text words kept) heads next places n → n < length next → n < length places → p < most_tokens
-    → name ≡ text_at text words kept p → h ≡ hash_of name → b ≡ bucket_in (length heads) h
-    → (x ≡ set heads b (n + 1)) × (y ≡ set next n (get_or heads b 0)) × (z ≡ set places n (note_of h p))
-    → Noting false (view text words kept) (token_at (view text words kept) p).text places n x y z (suc n)
-remembered text words kept heads next places n p h b name x y z noted room room' few e hashed is stored =
-    let own : h ≡ hash_of (token_at (view text words kept) p).text = hashed ∙ ap hash_of (e ∙ sym (view_text text words kept p)) in
-    rw (stored.0, stored.1, stored.2, is, own, add-one n) (noted_more (view text words kept) heads next places n p noted room room' few)
+pub remembered : (all : List Token) (heads next places : List ℕ) (n p h b : ℕ) → Noted all heads next places n → n < length next → n < length places → p < most_tokens
+    → h ≡ hash_of (token_at all p).text → b ≡ bucket_in (length heads) h
+    → Noted all (set heads b (n + 1)) (set next n (get_or heads b 0)) (set places n (note_of h p)) (n + 1)
+    × (names_at all (set places n (note_of h p)) (n + 1) ≡ (token_at all p).text ∷ names_at all places n)
+remembered all heads next places n p h b noted room room' few hashed is = rw (is, hashed, add-one n) (noted_more all heads next places n p noted room room' few)

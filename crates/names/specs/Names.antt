@@ -1,5 +1,5 @@
 -- Inner: names that are remembered by the places of their tokens, and what lets the code answer "none of them is this name" without looking at each.
-use Rattle.std.specs.Prelude.{ℕ, zero, suc, ◌+◌, ◌-◌, ◌*◌, ◌/◌, ◌%◌, ◌≤◌, ◌<◌, ◌≡◌, Bool, true, false, cond, List, [], ◌∷◌, eqb, length, get_or}
+use Rattle.std.specs.Prelude.{ℕ, zero, suc, ◌+◌, ◌-◌, ◌*◌, ◌/◌, ◌%◌, ◌≤◌, ◌<◌, ◌≡◌, Bool, cond, List, [], ◌∷◌, eqb, length, get_or}
 use Rattle.std.specs.Int.Bits.{bit_and}
 use Rattle.tokens.specs.Number.{most_tokens}
 use Rattle.tokens.specs.Token.{Token, token_at}
@@ -12,10 +12,6 @@ mixed h = h % 4294967296 * 2654435761 / 4096 % 4294967296
 -- four bytes as one number, the first one lowest
 unfoldable pub four_of : ℕ → ℕ → ℕ → ℕ → ℕ
 four_of a b c d = a + b * 256 + c * most_tokens + d * 16777216
-
--- those of a name from byte i on
-abbrev pub four_at : List ℕ → ℕ → ℕ
-four_at name i = four_of (get_or name i 0) (get_or name (i + 1) 0) (get_or name (i + 2) 0) (get_or name (i + 3) 0)
 
 -- fewer than four bytes as one number, the last one lowest
 unfoldable pub rest_of : List ℕ → ℕ
@@ -79,20 +75,19 @@ pub record Noted (all : List Token) (heads next places : List ℕ) (n : ℕ) : T
   pub link : (j : ℕ) → j < n → get_or next j 0 ≡ latest (length heads) all places (bucket_of (length heads) (name_at all places j)) j
   pub tag : (j : ℕ) → j < n → tag_of (get_or places j 0) ≡ tag_of (hash_of (name_at all places j))
 
--- room for the names of so many tokens, at least `each` of them to a name, and none remembered yet
-pub record Fresh (each tokens : ℕ) (heads next places : List ℕ) : Type 0 where
-  pub some : 1 ≤ length heads
-  pub fresh : (b : ℕ) → b < length heads → get_or heads b 0 ≡ 0
-  pub linked : tokens ≤ each * length next
-  pub placed : tokens ≤ each * length places
+-- what a contract sees of remembered names: the tokens that they are names of, the names, the last one first, and how many there is room for
+pub record Seen : Type 0 where
+  pub tokens : List Token
+  pub names : List (List ℕ)
+  pub room : ℕ
 
--- one name more is remembered, unless an earlier one is the same
-abbrev pub Noting : Bool → List Token → List ℕ → List ℕ → ℕ → List ℕ → List ℕ → List ℕ → ℕ → Type 0
-Noting true all name places n heads' next' places' n' = Unit {0}
-Noting false all name places n heads' next' places' n' =
-    Noted all heads' next' places' n' × (names_at all places' n' ≡ name ∷ names_at all places n)
+-- none of them is remembered yet, and there is room for those of so many tokens, at least `each` of them to a name
+pub record Fresh (each tokens : ℕ) (all : List Token) (now : Seen) : Type 0 where
+  pub same : now.tokens ≡ all
+  pub fresh : now.names ≡ []
+  pub room : tokens ≤ each * now.room
 
--- what the test of a name promises: whether a remembered one is the same, and what is remembered then
-pub record Checked (all : List Token) (name places : List ℕ) (n : ℕ) (r : Bool) (heads' next' places' : List ℕ) : Type 0 where
-  pub is : r ≡ one_of (names_at all places n) name
-  pub then : Noting r all name places n heads' next' places' (suc n)
+-- what the test of a name promises: whether a remembered one is the same; if none is, it is remembered, and else nothing more than was
+pub record Checked (name : List ℕ) (before : Seen) (r : Bool) (after : Seen) : Type 0 where
+  pub is : r ≡ one_of before.names name
+  pub then : after ≡ cond r before (record before { names = name ∷ before.names })

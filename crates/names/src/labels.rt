@@ -1,19 +1,19 @@
 // The labels of a body, each of which may have a name of its own only: the first whose name stands again.
 //
 // What is remembered of one body is room of that body's own, made anew and as large as its tokens ask for, so that nothing of it is left for the next.
-ghost use Rattle.std.specs.Prelude.{◌+◌, ◌-◌, ◌≤◌, ◌≡◌, ltb};
+ghost use Rattle.std.specs.Prelude.{◌+◌, ◌-◌, ◌*◌, ◌≤◌, ◌≡◌, ltb};
 ghost use Rattle.tokens.specs.Number.{most_tokens};
-ghost use Rattle.tokens.specs.Token.{view};
-ghost use Rattle.tokens.specs.Place.{Numbered};
 ghost use Rattle.grammar.specs.Again.{first_again};
 ghost use Rattle.names.specs.Labels.{short_body};
 ghost use Rattle.names.specs.Names.{Fresh};
+ghost use Rattle.names.specs.Remembered.{seen};
+ghost use Rattle.tokens.specs.Source.{all};
 
-use crate::names::{bucket_of, hash_of, is_remembered, remember};
-use tokens::{kind, kind_at, text_at};
+use crate::names::Remembered;
+use tokens::{Source, kind};
 
 // Room for names by the number of tokens, a label for every two of them, since its Colon stands behind it; what is made anew for each body should cost less than its
-// reading. A bucket for every token, so that two names seldom meet in one.
+// reading. A bucket for every token, so that two names seldom meet in one. `files` has constants of these names for a file's macros, with numbers of its own.
 const FEW_TOKENS: usize = 32;
 
 const FEW_NAMES: usize = 16;
@@ -43,149 +43,49 @@ const MANY_NAMES: usize = 32768;
 
 const MANY_BUCKETS: usize = 65536;
 
-// The first Label from place `from` on and before place `to` whose name a Label before it has; if there is none, a place that is not before `to`. heads, next and
-// places are room for the names. Each name is tested by the pieces of `check_duplicate` and not by a call of it, which would cost each label more (bench/README.md).
-fn walk(
-    text: &[u8],
-    tokens: &[u32],
-    kept: &[u32],
-    from: usize,
-    to: usize,
-    heads: &mut [u16],
-    next: &mut [u16],
-    places: &mut [u32],
-) -> usize
-    requires numbered { Numbered tokens.now kept.now }
+// The first Label from place `from` on and before place `to` whose name a Label before it has; if there is none, a place that is not before `to`. `names` has room for
+// the labels' names.
+//
+// No Option: what is promised is the equation with grammar's `first_again` (specs/Again), which docs/PROMISES.md names, and who asks (`judged`, statements) compares the
+// place with its cursor. `from` and `to` beside each other, and that they are at most `most_tokens` in each clause: of a `Range` the clauses would name both ends just so.
+fn walk(source: &Source, from: usize, to: usize, names: &mut Remembered) -> usize
     requires to_le_most_tokens { to ≤ most_tokens }
-    requires fresh { Fresh 2 (to - from) heads.old next.old places.old }
-    ensures { result ≡ first_again (view text.now tokens.now kept.now) from to }
+    requires fresh { Fresh 2 (to - from) (all source.now) (seen names.old) }
+    ensures { result ≡ first_again (all source.now) from to }
 {
     let mut q = from;
-    let mut n = 0;
+    // by one token or by two
     while q < to {
-        if kind_at(tokens, kept, q) != kind::LABEL {
+        if source.kind_at(q) != kind::LABEL {
             q += 1;
             continue;
         }
-        let name = text_at(text, tokens, kept, q);
-        let h = hash_of(name);
-        let b = bucket_of(h, heads.len());
-        let last = heads[b] as usize;
-        if is_remembered(text, tokens, kept, name, h, heads, next, places, last, n) {
+        if names.check_duplicate(q) {
             return q;
         }
-        remember(q, h, b, heads, next, places, n);
-        n += 1;
         // its Colon is no Label
         q += 2;
     }
     q
 }
 
-// The same with its own room for names, for few tokens.
-fn walk_few(text: &[u8], tokens: &[u32], kept: &[u32], from: usize, to: usize) -> usize
-    requires numbered { Numbered tokens.now kept.now }
-    requires to_le_most_tokens { (to ≤ most_tokens) × (to ≤ from + 32) }
-    ensures { result ≡ first_again (view text.now tokens.now kept.now) from to }
-{
-    let mut heads = [0u16; FEW_BUCKETS];
-    let mut next = [0u16; FEW_NAMES];
-    let mut places = [0u32; FEW_NAMES];
-    walk(
-        text,
-        tokens,
-        kept,
-        from,
-        to,
-        &mut heads,
-        &mut next,
-        &mut places,
-    )
-}
-
-// For some hundred tokens.
-fn walk_some(text: &[u8], tokens: &[u32], kept: &[u32], from: usize, to: usize) -> usize
-    requires numbered { Numbered tokens.now kept.now }
-    requires to_le_most_tokens { (to ≤ most_tokens) × (to ≤ from + short_body) }
-    ensures { result ≡ first_again (view text.now tokens.now kept.now) from to }
-{
-    let mut heads = [0u16; SOME_BUCKETS];
-    let mut next = [0u16; SOME_NAMES];
-    let mut places = [0u32; SOME_NAMES];
-    walk(
-        text,
-        tokens,
-        kept,
-        from,
-        to,
-        &mut heads,
-        &mut next,
-        &mut places,
-    )
-}
-
-// For a thousand tokens or two. What next and places hold at first is of no account: ones are written by a loop of the compiler's, zeros by a function of the C library,
-// which an emulator runs a byte at a time.
-fn walk_more(text: &[u8], tokens: &[u32], kept: &[u32], from: usize, to: usize) -> usize
-    requires numbered { Numbered tokens.now kept.now }
-    requires to_le_most_tokens { (to ≤ most_tokens) × (to ≤ from + 2048) }
-    ensures { result ≡ first_again (view text.now tokens.now kept.now) from to }
-{
-    let mut heads = [0u16; MORE_BUCKETS];
-    let mut next = [1u16; MORE_NAMES];
-    let mut places = [1u32; MORE_NAMES];
-    walk(
-        text,
-        tokens,
-        kept,
-        from,
-        to,
-        &mut heads,
-        &mut next,
-        &mut places,
-    )
-}
-
-// For some thousand tokens.
-fn walk_lots(text: &[u8], tokens: &[u32], kept: &[u32], from: usize, to: usize) -> usize
-    requires numbered { Numbered tokens.now kept.now }
-    requires to_le_most_tokens { (to ≤ most_tokens) × (to ≤ from + 8192) }
-    ensures { result ≡ first_again (view text.now tokens.now kept.now) from to }
-{
-    let mut heads = [0u16; LOTS_BUCKETS];
-    let mut next = [1u16; LOTS_NAMES];
-    let mut places = [1u32; LOTS_NAMES];
-    walk(
-        text,
-        tokens,
-        kept,
-        from,
-        to,
-        &mut heads,
-        &mut next,
-        &mut places,
-    )
-}
-
-// For any list.
-fn walk_many(text: &[u8], tokens: &[u32], kept: &[u32], from: usize, to: usize) -> usize
-    requires numbered { Numbered tokens.now kept.now }
+// The same with its own room for as many names. The three arrays stand here and in `parse_with` (files): a struct of them would be no plainer, since what makes it would
+// have to promise its zeros and its lengths.
+fn walk_with<const NAMES: usize, const BUCKETS: usize>(
+    source: &Source,
+    from: usize,
+    to: usize,
+) -> usize
     requires to_le_most_tokens { to ≤ most_tokens }
-    ensures { result ≡ first_again (view text.now tokens.now kept.now) from to }
+    requires names { (to - from ≤ 2 * NAMES) × (NAMES ≤ most_tokens) }
+    requires buckets { (1 ≤ BUCKETS) × (BUCKETS ≤ most_tokens) }
+    ensures { result ≡ first_again (all source.now) from to }
 {
-    let mut heads = [0u16; MANY_BUCKETS];
-    let mut next = [1u16; MANY_NAMES];
-    let mut places = [1u32; MANY_NAMES];
-    walk(
-        text,
-        tokens,
-        kept,
-        from,
-        to,
-        &mut heads,
-        &mut next,
-        &mut places,
-    )
+    let mut heads = [0; BUCKETS];
+    let mut next = [0; NAMES];
+    let mut places = [0; NAMES];
+    let mut names = Remembered::new(source, &mut heads, &mut next, &mut places);
+    walk(source, from, to, &mut names)
 }
 
 // Whether a body from one place up to another is not short.
@@ -196,29 +96,27 @@ pub fn is_long(from: usize, to: usize) -> bool
     from + SOME_TOKENS < to
 }
 
-// In a short body.
-pub fn first_again(text: &[u8], tokens: &[u32], kept: &[u32], from: usize, to: usize) -> usize
-    requires numbered { Numbered tokens.now kept.now }
+// The same in a short body.
+pub fn first_again(source: &Source, from: usize, to: usize) -> usize
     requires from_le_most_tokens { (from ≤ most_tokens) × (to ≤ most_tokens) × (to ≤ from + short_body) }
-    ensures { result ≡ first_again (view text.now tokens.now kept.now) from to }
+    ensures { result ≡ first_again (all source.now) from to }
 {
     if to <= from + FEW_TOKENS {
-        return walk_few(text, tokens, kept, from, to);
+        return walk_with::<FEW_NAMES, FEW_BUCKETS>(source, from, to);
     }
-    walk_some(text, tokens, kept, from, to)
+    walk_with::<SOME_NAMES, SOME_BUCKETS>(source, from, to)
 }
 
-// In any body.
-pub fn first_again_long(text: &[u8], tokens: &[u32], kept: &[u32], from: usize, to: usize) -> usize
-    requires numbered { Numbered tokens.now kept.now }
+// The same in any body. Two functions: with one, many macros took more than four times mode 0's time in mode 1 (bench/README.md, `named_once_long`).
+pub fn first_again_long(source: &Source, from: usize, to: usize) -> usize
     requires from_le_most_tokens { (from ≤ most_tokens) × (to ≤ most_tokens) }
-    ensures { result ≡ first_again (view text.now tokens.now kept.now) from to }
+    ensures { result ≡ first_again (all source.now) from to }
 {
     if to <= from + MORE_TOKENS {
-        return walk_more(text, tokens, kept, from, to);
+        return walk_with::<MORE_NAMES, MORE_BUCKETS>(source, from, to);
     }
     if to <= from + LOTS_TOKENS {
-        return walk_lots(text, tokens, kept, from, to);
+        return walk_with::<LOTS_NAMES, LOTS_BUCKETS>(source, from, to);
     }
-    walk_many(text, tokens, kept, from, to)
+    walk_with::<MANY_NAMES, MANY_BUCKETS>(source, from, to)
 }

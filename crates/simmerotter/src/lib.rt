@@ -1,5 +1,5 @@
 // The library for programs in other languages: both entries and the lexer, their answers as numbers in an array that the caller lends. `simmerotter_c` exports these three
-// functions under C's calling convention; the program `cases` calls them here.
+// functions under C's calling convention; the program `cases` calls them here. What is lent comes one slice beside the other, as C lends it.
 #![tactic(auto)]
 
 mod values;

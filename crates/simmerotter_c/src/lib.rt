@@ -1,6 +1,6 @@
 // The three functions of `simmerotter` under C's calling convention: a crate is a library for Rattle or an archive for C, so the exports stand in a crate of their own, each
 // with the promise of the function that it calls. Numbers pass as themselves, a slice as its pointer and its length in elements, the answer's array as its pointer.
-// `bindings/c/simmerotter.h` and `bindings/rust` declare the same three functions.
+// `bindings/c/simmerotter.h` and `bindings/rust` declare the two that read tokens; the lexer is not declared there yet.
 #![tactic(auto)]
 
 ghost use Rattle.simmerotter.specs.Answered.{LexAnswered, FileAnswered, BodyAnswered};

@@ -12,7 +12,8 @@ use Rattle.tokens.specs.Byte.{same}
 use Rattle.tokens.specs.Kind.{PrimitiveType, Ident}
 use Rattle.tokens.proofs.Laws.{and_left, and_right, lt_or_le}
 use Rattle.tokens.proofs.NameLaws.{same_equal}
-use Rattle.spelling.specs.Spelling.{Spelt, spelt, mnemonics, keywords, value_of, no_opcode}
+use Rattle.tokens.specs.Name.{reserved}
+use Rattle.spelling.specs.Spelling.{Spelt, spelt, mnemonics, keywords, value_of, no_opcode, opcode_of, kind_outside}
 use Rattle.spelling.specs.Slots.{slots, records_from, keywords_from, table_length, shortest, longest, mix_of, slot_in, start_in, name_in, behind, place_of, every, spellings}
 
 pub table_long : length spellings ≡ table_length
@@ -67,7 +68,6 @@ right p w =
     ∷ same (name_in spellings p) w
     ∷ leb shortest (length w)
     ∷ leb (length w) longest
-    ∷ ltb (p + 1) table_length
     ∷ eqb (value_of mnemonics no_opcode w) (cond (ltb p keywords_from) (get_or spellings (p + 1) 0) no_opcode)
     ∷ eqb (value_of keywords (unless true) w) (cond (ltb p keywords_from) (unless true) (get_or spellings (p + 1) 0))
     ∷ eqb (value_of keywords (unless false) w) (cond (ltb p keywords_from) (unless false) (get_or spellings (p + 1) 0))
@@ -82,7 +82,6 @@ record Right (p : ℕ) (w : List ℕ) : Type 0 where
   name : name_in spellings p ≡ w
   long : shortest ≤ length w
   short : length w ≤ longest
-  inside : p + 1 < table_length
   opcode : value_of mnemonics no_opcode w ≡ cond (ltb p keywords_from) (get_or spellings (p + 1) 0) no_opcode
   keyword : (b : Bool) → value_of keywords (unless b) w ≡ cond (ltb p keywords_from) (unless b) (get_or spellings (p + 1) 0)
 
@@ -95,9 +94,8 @@ right_of p w h =
       name = (same_equal _ _).0 (t 1);
       long = leb-true _ _ (t 2);
       short = leb-true _ _ (t 3);
-      inside = ltb-true _ _ (t 4);
-      opcode = eqb-true _ _ (t 5);
-      keyword = keyword_of (eqb-true _ _ (t 6)) (eqb-true _ _ (t 7));
+      opcode = eqb-true _ _ (t 4);
+      keyword = keyword_of (eqb-true _ _ (t 5)) (eqb-true _ _ (t 6));
     }
   where
     keyword_of : value_of keywords (unless true) w ≡ cond (ltb p keywords_from) (unless true) (get_or spellings (p + 1) 0)
@@ -110,20 +108,20 @@ placed : (w : List ℕ) → (place w ≡ 0) ⊎ Right (place w) w
 placed w = ⊎_elim (λ (e : place w ≡ 0). inl e) (λ (h : right (place w) w ≡ true). inr (right_of (place w) w h)) (passes_at right every records_from w all_right)
 
 -- a word has no place if it follows from `Right` that it has none
-no_place : (w : List ℕ) → (Right (place w) w → ⊥) → 0 ≡ place w
-no_place w h = ⊎_elim (λ (e : place w ≡ 0). sym e) (λ (r : Right (place w) w). absurd (h r)) (placed w)
+no_place : (w : List ℕ) → (Right (place w) w → ⊥) → place w ≡ 0
+no_place w h = ⊎_elim (λ (e : place w ≡ 0). e) (λ (r : Right (place w) w). absurd (h r)) (placed w)
 
-pub too_short : (w : List ℕ) → length w < shortest → 0 ≡ place w
+pub too_short : (w : List ℕ) → length w < shortest → place w ≡ 0
 too_short w h = no_place w (λ r. let l = r.long in omega arith)
 
-pub too_long : (w : List ℕ) → longest < length w → 0 ≡ place w
+pub too_long : (w : List ℕ) → longest < length w → place w ≡ 0
 too_long w h = no_place w (λ r. let l = r.short in omega arith)
 
 -- ---- the slots
 
 -- at p a record stands, its name's own, and ends inside the table
 fine : ℕ → Bool
-fine p = all (eqb (place (name_in spellings p)) p ∷ leb (p + 2 + get_or spellings p 0) table_length ∷ [])
+fine p = all (eqb (place (name_in spellings p)) p ∷ leb (p + 2 + get_or spellings p 0) table_length ∷ ltb 0 p ∷ [])
 
 -- so for each of the first n slots
 all_fine : ℕ → Bool
@@ -143,25 +141,24 @@ fine_at (suc n) i t h =
     (lt_or_le i n)
 
 -- what a look at the record that a word's slot leads to says
-pub record Looked (table w : List ℕ) (p : ℕ) : Type 0 where
-  pub inside : p + 2 + get_or table p 0 ≤ length table
-  pub hit : same (name_in table p) w ≡ true → p ≡ place w
-  pub miss : same (name_in table p) w ≡ false → 0 ≡ place w
+pub record Looked (w : List ℕ) (p : ℕ) : Type 0 where
+  pub inside : p + 2 + get_or spellings p 0 ≤ table_length
+  pub hit : same (name_in spellings p) w ≡ true → (0 < p) × (p + 1 < table_length) × (p ≡ place w)
+  pub miss : same (name_in spellings p) w ≡ false → place w ≡ 0
 
-pub looked : (table w : List ℕ) (slot p : ℕ) → table ≡ spellings → slot ≡ slot_in table w → slot < slots → p ≡ start_in table slot → Looked table w p
+pub looked : (w : List ℕ) (slot p : ℕ) → slot ≡ slot_in spellings w → slot < slots → p ≡ start_in spellings slot → Looked w p
 unfolding fine
-looked table w slot p e s l h =
-    let f : fine p ≡ true = rw (h, e) (fine_at slots slot all_fine_lem l) in
+looked w slot p s l h =
+    let f : fine p ≡ true = rw h (fine_at slots slot all_fine_lem l) in
     let t = each _ f in
     let own : place (name_in spellings p) ≡ p = eqb-true _ _ (t 0) in
-    rw e
-    (record {
-      inside = rw table_long (leb-true _ _ (t 1));
-      hit = λ n. sym own ∙ ap place ((same_equal (name_in spellings p) w).0 n);
+    record {
+      inside = leb-true _ _ (t 1);
+      hit = λ n. let i = leb-true _ _ (t 1) in (ltb-true _ _ (t 2), omega arith, sym own ∙ ap place ((same_equal (name_in spellings p) w).0 n));
       miss = λ n. no_place w (λ r.
-          let i : p ≡ place w = rw (h, s, e) r.slot in
+          let i : p ≡ place w = rw (h, s) r.slot in
           false≢true (sym n ∙ rw i ((same_equal (name_in spellings (place w)) w).1 r.name)));
-    })
+    }
 
 -- ---- what a word stands for
 
@@ -192,25 +189,22 @@ unfolding since every place_of mnemonics keywords spelt same
 keywords_since = refl
 
 -- what a word's place says
-pub record Told (table w : List ℕ) (p : ℕ) : Type 0 where
-  pub inside : (p ≡ 0 → ⊥) → p + 1 < length table
-  pub nothing : p ≡ 0 → no_opcode ≡ value_of mnemonics no_opcode w
-  pub opcode : (p ≡ 0 → ⊥) → p < keywords_from → get_or table (p + 1) 0 ≡ value_of mnemonics no_opcode w
-  pub no_opcode_lem : keywords_from ≤ p → no_opcode ≡ value_of mnemonics no_opcode w
-  pub keyword : keywords_from ≤ p → (b : Bool) → get_or table (p + 1) 0 ≡ value_of keywords (unless b) w
-  pub no_keyword : p < keywords_from → (b : Bool) → unless b ≡ value_of keywords (unless b) w
+pub record Told (w : List ℕ) (p : ℕ) : Type 0 where
+  pub nothing : p ≡ 0 → opcode_of w ≡ no_opcode
+  pub opcode : 0 < p → p < keywords_from → get_or spellings (p + 1) 0 ≡ opcode_of w
+  pub other : keywords_from ≤ p → opcode_of w ≡ no_opcode
+  pub keyword : keywords_from ≤ p → get_or spellings (p + 1) 0 ≡ kind_outside w
+  pub no_keyword : p < keywords_from → kind_outside w ≡ unless (reserved w)
 
-pub told : (table w : List ℕ) (p : ℕ) → table ≡ spellings → p ≡ place w → Told table w p
-told table w p e h =
-    rw e
-    (record {
-      inside = λ n. let i = (named n).inside in rw table_long (omega arith);
-      nothing = λ n. sym (value_none 1 mnemonics no_opcode w mnemonics_since (omega arith));
+pub told : (w : List ℕ) (p : ℕ) → p ≡ place w → Told w p
+told w p h =
+    record {
+      nothing = λ n. value_none 1 mnemonics no_opcode w mnemonics_since (omega arith);
       opcode = λ n l. sym ((named n).opcode ∙ rw (lt-ltb _ _ l));
-      no_opcode_lem = λ l. sym ((named (omega arith)).opcode ∙ rw (le-ltb _ _ l));
-      keyword = λ l b. sym ((named (omega arith)).keyword b ∙ rw (le-ltb _ _ l));
-      no_keyword = λ l b. sym (value_none keywords_from keywords (unless b) w keywords_since (omega arith));
-    })
+      other = λ l. (named (omega arith)).opcode ∙ rw (le-ltb _ _ l);
+      keyword = λ l. sym ((named (omega arith)).keyword (reserved w) ∙ rw (le-ltb _ _ l));
+      no_keyword = λ l. value_none keywords_from keywords (unless (reserved w)) w keywords_since (omega arith);
+    }
   where
-    named : (p ≡ 0 → ⊥) → Right p w
-    named n = rw h (⊎_elim (λ (z : place w ≡ 0). absurd (n (h ∙ z))) (λ (r : Right (place w) w). r) (placed w))
+    named : 0 < p → Right p w
+    named n = rw h (⊎_elim (λ (z : place w ≡ 0). absurd (omega arith)) (λ (r : Right (place w) w). r) (placed w))

@@ -5,4 +5,3 @@ mod find;
 mod table;
 
 pub use find::{kind_outside, opcode_of};
-pub use table::{TABLE, made_table};

@@ -37,7 +37,9 @@ use Rattle.grammar.proofs.Recorded.{as_many, as_wide}
 use Rattle.grammar.proofs.Lengths.{none_exactly, none_alike, editions_differ}
 use Rattle.grammar.proofs.Tabled.{stored_filled, body_tabled, body_walked, walk_labels_all}
 use Rattle.grammar.proofs.Cases.{outcomes, rows_hold, strict_rows_hold, edition_rows_hold, type_rows_hold}
-use Rattle.statements.specs.declared.entry.Body.{Body}
+use Rattle.std.specs.Prelude.{Result}
+use Rattle.statements.specs.declared.entry.BodyRead.{BodyRead}
+use Rattle.statements.specs.declared.entry.BodyError.{BodyError}
 use Rattle.statements.specs.Call.{values, number_of, after_reading, reading_at, body_answered, BodyCall}
 
 -- the tables' whole records are enough for a reading's
@@ -132,7 +134,7 @@ module _ (mode edition : ℕ) (text words : List ℕ) (start : ℕ) (kept statem
   entrance_says true e false f = rw (e, f) (says_38 e f)
   entrance_says true e true f = rw (e, f) (door_says (record { mode_known = e; edition_known = f }) (door text words start (length kept)) (door_means text words start (length kept)))
 
-module _ {mode edition : ℕ} {text words : List ℕ} {start : ℕ} {kept statements arguments : List ℕ} {r : Body} {kept' statements' arguments' : List ℕ}
+module _ {mode edition : ℕ} {text words : List ℕ} {start : ℕ} {kept statements arguments : List ℕ} {r : Result BodyRead BodyError} {kept' statements' arguments' : List ℕ}
     (call : BodyCall mode edition text words start kept statements arguments r kept' statements' arguments') where
   abbrev tokens : List Token
   tokens = kept_tokens text words
@@ -275,13 +277,13 @@ module _ {mode edition : ℕ} {text words : List ℕ} {start : ℕ} {kept statem
 -- ---- with room
 
 -- the answer and the tables are those of an outcome, accepted or refused
-pub record Told (statements arguments : List ℕ) (r : Body) (statements' arguments' : List ℕ) (o : Outcome) : Type 0 where
+pub record Told (statements arguments : List ℕ) (r : Result BodyRead BodyError) (statements' arguments' : List ℕ) (o : Outcome) : Type 0 where
   pub answer : values r ≡ o.answers
   pub statements_hold : statements' ≡ filled (length statements) o.statements
   pub arguments_hold : arguments' ≡ filled (length arguments) o.arguments
 
 -- a mode and an edition that there are, a well-formed list, a start inside it, a kept list long enough, and tables with room for the reading's records: the call answers the reading
-pub with_room : {mode edition : ℕ} {text words : List ℕ} {start : ℕ} {kept statements arguments : List ℕ} {r : Body} {kept' statements' arguments' : List ℕ}
+pub with_room : {mode edition : ℕ} {text words : List ℕ} {start : ℕ} {kept statements arguments : List ℕ} {r : Result BodyRead BodyError} {kept' statements' arguments' : List ℕ}
     → Named mode edition → WellFormed text words → start < length (kept_of words) → length (kept_of words) ≤ length kept
     → (o : Outcome) → outcome (kept_tokens text words) edition start (reading_at mode text words start) ≡ o
     → length o.statements ≤ length statements / statement_width
@@ -334,7 +336,7 @@ alike true v w away e = e
 alike false v w away e = (refl, (λ n. refl))
 
 -- two calls alike but for the edition, 1 in one and 2 in the other
-module _ {mode : ℕ} {text words : List ℕ} {start : ℕ} {kept statements arguments : List ℕ} {r₁ r₂ : Body} {kept₁ kept₂ statements₁ statements₂ arguments₁ arguments₂ : List ℕ}
+module _ {mode : ℕ} {text words : List ℕ} {start : ℕ} {kept statements arguments : List ℕ} {r₁ r₂ : Result BodyRead BodyError} {kept₁ kept₂ statements₁ statements₂ arguments₁ arguments₂ : List ℕ}
     (first : BodyCall mode first_edition text words start kept statements arguments r₁ kept₁ statements₁ arguments₁)
     (second : BodyCall mode second_edition text words start kept statements arguments r₂ kept₂ statements₂ arguments₂) where
   abbrev said : ℕ × ℕ
@@ -385,7 +387,7 @@ module _ {mode : ℕ} {text words : List ℕ} {start : ℕ} {kept statements arg
 -- the row's numbers and tables
 abbrev pub Answered : ℕ → ℕ → (ℕ → List ℕ) → Row → Type 0
 Answered mode edition texts row =
-    (text words kept statements arguments : List ℕ) (r : Body) (kept' statements' arguments' : List ℕ)
+    (text words kept statements arguments : List ℕ) (r : Result BodyRead BodyError) (kept' statements' arguments' : List ℕ)
     → WellFormed text words
     → kept_tokens text words ≡ tokens_of texts 0 (braced row.input)
     → length (kept_of words) ≤ length kept

@@ -21,12 +21,14 @@ use Rattle.grammar.specs.Cases.{outcome}
 use Rattle.grammar.specs.Tables.{Walk}
 use Rattle.grammar.proofs.Demand.{body_exactly, body_some, only_one}
 use Rattle.grammar.proofs.Recorded.{as_many}
-use Rattle.statements.specs.declared.entry.Body.{Body}
+use Rattle.std.specs.Prelude.{Result}
+use Rattle.statements.specs.declared.entry.BodyRead.{BodyRead}
+use Rattle.statements.specs.declared.entry.BodyError.{BodyError}
 use Rattle.statements.specs.Call.{number_of, reading_at, BodyCall}
 use Rattle.grammar.proofs.FileBounds.{follows_fits}
 use Rattle.statements.proofs.Called.{Room, Named, Holding, accepted, with_room, call_ranges}
 
-module _ {mode edition : ℕ} {text words : List ℕ} {start : ℕ} {kept statements arguments : List ℕ} {r : Body} {kept' statements' arguments' : List ℕ}
+module _ {mode edition : ℕ} {text words : List ℕ} {start : ℕ} {kept statements arguments : List ℕ} {r : Result BodyRead BodyError} {kept' statements' arguments' : List ℕ}
     (call : BodyCall mode edition text words start kept statements arguments r kept' statements' arguments') where
   -- the n tokens from the start follow the grammar by the mode's rules and read rd
   abbrev pub Stretch : ℕ → Reading → Type 0

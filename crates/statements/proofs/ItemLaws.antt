@@ -4,17 +4,21 @@ use native.Mathlib.Nat.{add-zero}
 use native.Mathlib.Numerals.{add-one}
 use native.Mathlib.Omega.{arith}
 use mathlib.Core.Path.{◌≡◌, refl, sym, ap, ◌∙◌}
-use mathlib.Core.Bool.{Bool, true, false, cond, not, ◌&&◌, true≢false}
+use mathlib.Core.Bool.{Bool, true, false, cond, ◌&&◌, true≢false}
 use mathlib.Core.List.{List, [], ◌∷◌}
-use borrow.Author.Tests.{not-true, not-false, eqb-true, eq-eqb, ne_eqb}
+use borrow.Author.Tests.{eqb-true, eq-eqb, ne_eqb}
 use lib.Dec.{eqb}
 use lib.ListN.{length, drop}
 use Rattle.tokens.specs.Kind.{OpenParen, OpenBracket, CloseBracket, LeftAngle, RightAngle, Ident, Literal, Opcode, BuiltinFunction}
 use Rattle.tokens.specs.Token.{Token, token_at, view}
-use Rattle.tokens.specs.Place.{kind_at}
+use Rattle.tokens.specs.Place.{kind_at, extra_at, text_at, KindAt}
+use Rattle.tokens.specs.declared.source.Source.{Source}
+use Rattle.tokens.specs.Source.{all, all_from, count}
 use Rattle.tokens.specs.Push.{is_value_push, fits}
-use Rattle.tokens.proofs.TokenLaws.{view_kind}
-use Rattle.statements.specs.declared.item.Progress.{Progress}
+use Rattle.tokens.proofs.TokenLaws.{view_kind, view_extra, view_text}
+use Rattle.std.specs.Prelude.{Result, Ok, Err}
+use Rattle.statements.specs.declared.item.StatementType.{StatementType}
+use Rattle.statements.specs.declared.item.StatementType.TheVariants as types
 use Rattle.grammar.specs.Reading.{Simple, Sort, Argument, a_literal, an_opcode, a_label_call, an_invocation, a_constant, an_argument_call, a_builtin, single, enclosed, called}
 use Rattle.grammar.specs.Written.{RefusedRead}
 use Rattle.grammar.specs.Result.{plain, overflow, Res, got, bad, refuse, on, with_one_more, stepped, look, choose, expect, joined, seq}
@@ -22,16 +26,10 @@ use Rattle.grammar.specs.Reader.{closed_list, call_argument, builtin_argument, o
 use Rattle.grammar.specs.Records.{type_of}
 use Rattle.grammar.proofs.AtPlace.{look_at}
 use Rattle.grammar.proofs.Holds.{cond_says}
-use Rattle.statements.specs.declared.item.Item.TheVariants.{Builtin}
-use Rattle.lists.proofs.At.{expect_taken, expect_refused, kind_inside}
-use Rattle.statements.specs.Item.{ItemRead, OneRead, with_list, enclosed_item, opcode_item, ident_item, OnePut, PushPut, push_opcode, push_literal, lone_behind, lone_put}
-
--- a call's answer says that a literal overflows, or does not
-pub overflows : (byte : ℕ) (literal : List ℕ) {r : Bool} → r ≡ not (fits byte literal) → r ≡ true → fits byte literal ≡ false
-overflows byte literal e h = not-true (fits byte literal) (sym e ∙ h)
-
-pub fits_well : (byte : ℕ) (literal : List ℕ) {r : Bool} → r ≡ not (fits byte literal) → r ≡ false → fits byte literal ≡ true
-fits_well byte literal e h = not-false (fits byte literal) (sym e ∙ h)
+use Rattle.statements.specs.declared.item.Item.{Item}
+use Rattle.statements.specs.declared.item.Item.TheVariants.{One, Builtin}
+use Rattle.lists.proofs.At.{expect_taken, expect_refused, kind_inside, kind_here}
+use Rattle.statements.specs.Item.{type_number, ItemRead, OneRead, with_list, enclosed_item, opcode_item, ident_item}
 
 -- ---- what the first token decides
 
@@ -123,7 +121,7 @@ module _ (takes : Bool) (wrong p size : ℕ) (all : List Token) (inside : (q : �
   here : (k : ℕ) → (token_at all p).kind ≡ k → 0 < k → p < size
   here k e h = inside p (rw e h)
 
-  pub literal_at_lem : (token_at all p).kind ≡ Literal → OneRead p size (item takes wrong p (drop p all)) (record { ty = 1; end = p + 1; place = p })
+  pub literal_at_lem : (token_at all p).kind ≡ Literal → OneRead p size (item takes wrong p (drop p all)) (record { ty = types.Literal; end = p + 1; place = p })
   literal_at_lem e =
       record {
         what = single a_literal p (token_at all p);
@@ -199,14 +197,14 @@ module _ (takes : Bool) (wrong p size : ℕ) (all : List Token) (inside : (q : �
       }))
 
   pub builtin_at_lem : (token_at all p).kind ≡ BuiltinFunction
-      → ItemRead p size all (item takes wrong p (drop p all)) Builtin
+      → ItemRead p size all (item takes wrong p (drop p all)) (Ok Builtin)
   builtin_at_lem e = (
     here BuiltinFunction e (omega arith),
     builtin_step takes wrong p all e ∙ list_behind builtin_argument a_builtin p (token_at all p) (drop (p + 1) all),
   )
 
   -- a name between two signs
-  enclosed_at : (sort : Sort) (y close ty : ℕ) → 0 < close → type_of sort ≡ ty
+  enclosed_at : (sort : Sort) (y close : ℕ) (ty : StatementType) → 0 < close → type_of sort ≡ type_number ty
       → item takes wrong p (drop p all) ≡ with_one_more (expect Ident (plain y) (λ i. expect close (plain 1) (λ r q ts. got (enclosed sort p i ∷ []) 0)) (p + 1) (drop (p + 1) all))
       → ItemRead p size all (item takes wrong p (drop p all)) (enclosed_item y close ty p (token_at all (p + 1)).kind (token_at all (p + 2)).kind)
   enclosed_at sort y close ty pos is-ty step =
@@ -251,20 +249,57 @@ module _ (takes : Bool) (wrong p size : ℕ) (all : List Token) (inside : (q : �
       no : {k l : ℕ} → eqb k l ≡ false → k ≡ l → ⊥
       no {k} {l} f z = true≢false (sym (eq-eqb k l z) ∙ f)
 
-  pub constant_at_lem : (token_at all p).kind ≡ OpenBracket → ItemRead p size all (item takes wrong p (drop p all)) (enclosed_item 12 CloseBracket 6 p (token_at all (p + 1)).kind (token_at all (p + 2)).kind)
-  constant_at_lem e = enclosed_at a_constant 12 CloseBracket 6 (omega arith) refl (constant_step takes wrong p all e)
+  pub constant_at_lem : (token_at all p).kind ≡ OpenBracket → ItemRead p size all (item takes wrong p (drop p all)) (enclosed_item 12 CloseBracket types.Constant p (token_at all (p + 1)).kind (token_at all (p + 2)).kind)
+  constant_at_lem e = enclosed_at a_constant 12 CloseBracket types.Constant (omega arith) refl (constant_step takes wrong p all e)
 
-  pub argument_at : (token_at all p).kind ≡ LeftAngle → ItemRead p size all (item takes wrong p (drop p all)) (enclosed_item 13 RightAngle 7 p (token_at all (p + 1)).kind (token_at all (p + 2)).kind)
-  argument_at e = enclosed_at an_argument_call 13 RightAngle 7 (omega arith) refl (argument_step takes wrong p all e)
-
--- both records of a push
-pub push_put : {st st₁ st₂ : List ℕ} {s t u : Progress} {i a : ℕ} → OnePut st s i a (push_opcode s) t st₁ → OnePut st₁ t i a (push_literal s) u st₂ → PushPut st s i a u st₂
-push_put {st} {st₁} {s = s} {t = t} {i = i} {a = a} v w =
-    record {
-      is = w.is ∙ ap (λ (x : Progress). lone_behind x (push_literal s)) v.is;
-      table = w.table ∙ ap (λ (l : List ℕ). lone_put l t i a (push_literal s)) v.table ∙ ap (λ (x : Progress). lone_put (lone_put st s i a (push_opcode s)) x i a (push_literal s)) v.is;
-    }
+  pub argument_at : (token_at all p).kind ≡ LeftAngle → ItemRead p size all (item takes wrong p (drop p all)) (enclosed_item 13 RightAngle types.ArgumentCall p (token_at all (p + 1)).kind (token_at all (p + 2)).kind)
+  argument_at e = enclosed_at an_argument_call 13 RightAngle types.ArgumentCall (omega arith) refl (argument_step takes wrong p all e)
 
 -- the view's tokens inside the kept list
 pub view_inside : (text words kept : List ℕ) (q : ℕ) → 0 < (token_at (view text words kept) q).kind → q < length kept
 view_inside text words kept q h = kind_inside words kept q (kind_at words kept q) refl (rw view_kind at h)
+
+-- ---- the same of what the code is lent, by what it finds there
+
+module _ (source : Source) (takes : Bool) (wrong p : ℕ) where
+  -- what the reader of one item promises of p
+  abbrev pub Here : Result Item (ℕ × ℕ) → Type 0
+  Here r = ItemRead p (count source) (all source) (item takes wrong p (all_from source p)) r
+
+  in_kept : (q : ℕ) → 0 < (token_at (all source) q).kind → q < count source
+  in_kept = view_inside source.text.now source.tokens.now source.kept.now
+
+  is_kind : {r k : ℕ} → KindAt source.tokens.now source.kept.now p r → r ≡ k → (token_at (all source) p).kind ≡ k
+  is_kind m e = sym (kind_here source.text.now source.tokens.now source.kept.now p m) ∙ e
+
+  kind_of : (q : ℕ) → (token_at (all source) q).kind ≡ kind_at source.tokens.now source.kept.now q
+  kind_of q = view_kind source.text.now source.tokens.now source.kept.now q
+
+  pub literal_here : {k : ℕ} → KindAt source.tokens.now source.kept.now p k → k ≡ Literal → Here (Ok (One (record { ty = types.Literal; end = p + 1; place = p })))
+  literal_here m e = literal_at_lem takes wrong p (count source) (all source) in_kept (is_kind m e)
+
+  pub opcode_here : {k : ℕ} → KindAt source.tokens.now source.kept.now p k → k ≡ Opcode
+      → Here (opcode_item takes p (extra_at source.tokens.now source.kept.now p) (kind_at source.tokens.now source.kept.now (p + 1)) (text_at source.text.now source.tokens.now source.kept.now (p + 1)))
+  opcode_here m e =
+      rw (← view_extra source.text.now source.tokens.now source.kept.now p, ← kind_of (p + 1), ← view_text source.text.now source.tokens.now source.kept.now (p + 1))
+      (opcode_at_lem takes wrong p (count source) (all source) in_kept (is_kind m e))
+
+  pub ident_here : {k : ℕ} → KindAt source.tokens.now source.kept.now p k → k ≡ Ident → Here (ident_item p (kind_at source.tokens.now source.kept.now (p + 1)))
+  ident_here m e = rw (← kind_of (p + 1)) (ident_at takes wrong p (count source) (all source) in_kept (is_kind m e))
+
+  pub constant_here : {k : ℕ} → KindAt source.tokens.now source.kept.now p k → k ≡ OpenBracket
+      → Here (enclosed_item 12 CloseBracket types.Constant p (kind_at source.tokens.now source.kept.now (p + 1)) (kind_at source.tokens.now source.kept.now (p + 2)))
+  constant_here m e = rw (← kind_of (p + 1), ← kind_of (p + 2)) (constant_at_lem takes wrong p (count source) (all source) in_kept (is_kind m e))
+
+  pub argument_here : {k : ℕ} → KindAt source.tokens.now source.kept.now p k → k ≡ LeftAngle
+      → Here (enclosed_item 13 RightAngle types.ArgumentCall p (kind_at source.tokens.now source.kept.now (p + 1)) (kind_at source.tokens.now source.kept.now (p + 2)))
+  argument_here m e = rw (← kind_of (p + 1), ← kind_of (p + 2)) (argument_at takes wrong p (count source) (all source) in_kept (is_kind m e))
+
+  pub builtin_here : {k : ℕ} → KindAt source.tokens.now source.kept.now p k → k ≡ BuiltinFunction → Here (Ok Builtin)
+  builtin_here m e = builtin_at_lem takes wrong p (count source) (all source) in_kept (is_kind m e)
+
+  pub other_here : {k : ℕ} → KindAt source.tokens.now source.kept.now p k → (k ≡ Literal → ⊥) → (k ≡ Opcode → ⊥) → (k ≡ Ident → ⊥) → (k ≡ OpenBracket → ⊥) → (k ≡ LeftAngle → ⊥) → (k ≡ BuiltinFunction → ⊥)
+      → Here (Err (wrong, p))
+  other_here {k} m a b c d e f =
+      let h : k ≡ (token_at (all source) p).kind = kind_here source.text.now source.tokens.now source.kept.now p m in
+      other_at takes wrong p (all source) (λ z. a (h ∙ z)) (λ z. b (h ∙ z)) (λ z. c (h ∙ z)) (λ z. d (h ∙ z)) (λ z. e (h ∙ z)) (λ z. f (h ∙ z))

@@ -1,6 +1,5 @@
 -- The rule on labels' names behind the reading: the cursor that the walk over labels goes up to, and what was read with that rule. Assumes nothing.
 use Prim.Native.Nat.{ℕ, ◌≤◌}
-use native.Mathlib.Nat.{add-zero}
 use native.Mathlib.Omega.{arith}
 use mathlib.Core.Path.{◌≡◌, refl, sym, ap, ◌∙◌}
 use mathlib.Core.Bool.{Bool, true, false, cond, true≢false}
@@ -9,21 +8,23 @@ use mathlib.Core.Logic.{◌⊎◌, inl, inr}
 use lib.ListN.{length, drop}
 use lib.Dec.{ltb}
 use Rattle.tokens.specs.Number.{DuplicateLabel, most_tokens}
-use Rattle.tokens.specs.Token.{Token, view}
+use Rattle.tokens.specs.Token.{Token}
+use Rattle.tokens.specs.declared.source.Source.{Source}
+use Rattle.tokens.specs.Source.{all, count}
 use Rattle.tokens.proofs.TokenLaws.{view_length}
 use Rattle.grammar.specs.Reading.{Reading}
 use Rattle.grammar.specs.Rules.{asks}
-use Rattle.grammar.specs.Result.{plain, Res, got, bad}
+use Rattle.grammar.specs.Result.{Res, got, bad}
 use Rattle.grammar.specs.Reader.{body_from}
 use Rattle.grammar.specs.Records.{statement_records, argument_records}
 use Rattle.grammar.specs.Again.{pushing, first_again, cursor_of, once}
 use Rattle.grammar.proofs.NamesOnce.{names_once_lem, cursor_inside}
+use Rattle.lists.specs.declared.before.Before.{Before}
 use Rattle.statements.specs.declared.item.Progress.{Progress}
-use Rattle.statements.specs.declared.item.Items.{Items}
-use Rattle.statements.specs.declared.item.Items.TheVariants.{Refused}
+use Rattle.std.specs.Prelude.{Result, Err}
 use Rattle.statements.specs.Answers.{Counting, body_answer, BodyParsed}
 use Rattle.statements.specs.Label.{cursor_at, named_once}
-use Rattle.statements.proofs.Pieces.{refused_parsed}
+use Rattle.statements.proofs.Pieces.{refused_here}
 
 -- the cursor of an answer is that of what was read
 cursor_same : (s : Progress) (x : Res Reading) → cursor_at (body_answer s x) ≡ cursor_of s.at x
@@ -31,29 +32,29 @@ cursor_same s (got rd k) = refl
 cursor_same s (bad y w) = refl
 
 -- the cursor of a body read without the rule on names lies in the list or at its end
-pub parts_end : (strict : Bool) (text words kept : List ℕ) {i a : ℕ} {s : Progress} {st ar st₁ ar₁ : List ℕ} {r : Items} → Counting words kept s i a
-    → BodyParsed s i a (length kept) (body_from (pushing strict) s.at (drop s.at (view text words kept))) st ar r st₁ ar₁
+pub parts_end : (strict : Bool) (source : Source) {before : Before} {s : Progress} {st ar st₁ ar₁ : List ℕ} {r : Result Progress (ℕ × ℕ)} → Counting source.tokens.now source.kept.now s before
+    → BodyParsed s before (count source) (body_from (pushing strict) s.at (drop s.at (all source))) st ar r st₁ ar₁
     → cursor_at r ≤ most_tokens
-parts_end strict text words kept {i} {a} {s} {r = r} g v = go (body_from (pushing strict) s.at (drop s.at (view text words kept))) refl
+parts_end strict source {before} {s} {r = r} g v = go (body_from (pushing strict) s.at (drop s.at (all source))) refl
   where
-    all : length (view text words kept) ≡ length kept
-    all = view_length text words kept
+    same : length (all source) ≡ count source
+    same = view_length source.text.now source.tokens.now source.kept.now
 
-    go : (x : Res Reading) → body_from (pushing strict) s.at (drop s.at (view text words kept)) ≡ x → cursor_at r ≤ most_tokens
+    go : (x : Res Reading) → body_from (pushing strict) s.at (drop s.at (all source)) ≡ x → cursor_at r ≤ most_tokens
     go (got rd k) e =
         let is = v.is ∙ ap (body_answer s) e in
         let within = rw is at v.within in
         rw is (omega (arith, within.1, g.list.few))
     go (bad y w) e =
-        let inside = cursor_inside (pushing strict) (view text words kept) s.at y w (omega (arith, g.inside, all)) e in
-        rw (v.is ∙ ap (body_answer s) e) (omega (arith, inside, all, g.list.few))
+        let inside = cursor_inside (pushing strict) (all source) s.at y w (omega (arith, g.inside, same)) e in
+        rw (v.is ∙ ap (body_answer s) e) (omega (arith, inside, same, g.list.few))
 
 -- asked for, a name that stands again is refused
-once_parsed : {s : Progress} {i a size : ℕ} (all : List Token) {st ar st₁ ar₁ : List ℕ} {r : Items}
-    → BodyParsed s i a size (body_from (pushing true) s.at (drop s.at all)) st ar r st₁ ar₁
-    → BodyParsed s i a size (body_from (asks true) s.at (drop s.at all)) st ar (named_once all s.at r) st₁ ar₁
+once_parsed : {s : Progress} {before : Before} {size : ℕ} (all : List Token) {st ar st₁ ar₁ : List ℕ} {r : Result Progress (ℕ × ℕ)}
+    → BodyParsed s before size (body_from (pushing true) s.at (drop s.at all)) st ar r st₁ ar₁
+    → BodyParsed s before size (body_from (asks true) s.at (drop s.at all)) st ar (named_once all s.at r) st₁ ar₁
 unfolding once
-once_parsed {s} {i} {a} {size} all {st} {ar} {st₁} {ar₁} {r} v =
+once_parsed {s} {before} {size} all {st} {ar} {st₁} {ar₁} {r} v =
     rw (names_once_lem true all s.at) (go (ltb (first_again all s.at (cursor_at r)) (cursor_at r)) refl)
   where
     read : Res Reading
@@ -63,16 +64,16 @@ once_parsed {s} {i} {a} {size} all {st} {ar} {st₁} {ar₁} {r} v =
     here = sym (cursor_same s read) ∙ ap cursor_at (sym v.is)
 
     go : (b : Bool) → ltb (first_again all s.at (cursor_at r)) (cursor_at r) ≡ b
-        → BodyParsed s i a size (once all s.at read) st ar (cond b (Refused DuplicateLabel (first_again all s.at (cursor_at r))) r) st₁ ar₁
+        → BodyParsed s before size (once all s.at read) st ar (cond b (Err (DuplicateLabel, first_again all s.at (cursor_at r))) r) st₁ ar₁
     go true e =
-        refused_parsed body_answer statement_records argument_records i a (plain DuplicateLabel) (first_again all s.at (cursor_at r)) (rw (here, e)) refl refl (sym (add-zero _))
+        refused_here body_answer statement_records argument_records before DuplicateLabel (first_again all s.at (cursor_at r)) (rw (here, e)) refl
     go false e = rw (here, e) v
 
 -- the answer behind the test of names, which is made only in strict reading
-pub body_named : (strict : Bool) {s : Progress} {i a size : ℕ} (all : List Token) {st ar st₁ ar₁ : List ℕ} {r r' : Items}
-    → BodyParsed s i a size (body_from (pushing strict) s.at (drop s.at all)) st ar r st₁ ar₁
+pub body_named : (strict : Bool) {s : Progress} {before : Before} {size : ℕ} (all : List Token) {st ar st₁ ar₁ : List ℕ} {r r' : Result Progress (ℕ × ℕ)}
+    → BodyParsed s before size (body_from (pushing strict) s.at (drop s.at all)) st ar r st₁ ar₁
     → ((strict ≡ true) × (r' ≡ named_once all s.at r)) ⊎ ((strict ≡ false) × (r' ≡ r))
-    → BodyParsed s i a size (body_from (asks strict) s.at (drop s.at all)) st ar r' st₁ ar₁
+    → BodyParsed s before size (body_from (asks strict) s.at (drop s.at all)) st ar r' st₁ ar₁
 body_named true all v (inl h) = rw h.1 (once_parsed all v)
 body_named true all v (inr h) = absurd (true≢false h.0)
 body_named false all v (inl h) = absurd (true≢false (sym h.0))

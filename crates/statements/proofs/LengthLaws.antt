@@ -1,18 +1,25 @@
 -- The plain length that the code adds up, token by token, is the plain length of the body's reading, under any rule set. Assumes nothing.
-use Prim.Native.Nat.{ℕ, zero, suc, ◌+◌, ◌≤◌, ◌<◌}
+use Prim.Native.Nat.{ℕ, suc, ◌+◌, ◌≤◌, ◌<◌}
 use native.Mathlib.Nat.{add-zero, add_assoc, zero-add}
 use native.Mathlib.Numerals.{add-one}
 use native.Mathlib.Omega.{arith}
 use mathlib.Core.Path.{◌≡◌, refl, sym, ap, subst, ◌∙◌}
 use mathlib.Core.Logic.{⊎_elim}
-use mathlib.Core.Bool.{Bool, true, false, cond, not, ◌&&◌, ◌||◌, and_assoc, and-true, and-false, and-eq-true_iff, true≢false}
+use mathlib.Core.Bool.{Bool, true, false, cond, not, not-not, ◌&&◌, ◌||◌, and_assoc, and-true, and-false, and-eq-true_iff}
 use mathlib.Core.List.{List, [], ◌∷◌, ◌++◌, append_assoc, flatten, sum}
-use borrow.Author.Tests.{eqb-true}
+use borrow.Author.Tests.{eqb-true, ne_eqb}
 use lib.Dec.{eqb}
 use lib.ListN.{length, take, drop, drop_of_length-le, take-append-drop, get_or-eq_default}
 use lib.Seq.{drop-cons, drop-drop}
 use Rattle.tokens.specs.Kind.{CloseBrace, Colon, Label, Literal, Opcode}
 use Rattle.tokens.specs.Token.{Token, eof_token, token_at}
+use Rattle.tokens.specs.Place.{KindAt, extra_at, text_at}
+use Rattle.tokens.specs.declared.source.Source.{Source}
+use Rattle.tokens.specs.Source.{all, count}
+use Rattle.tokens.proofs.TokenLaws.{view_extra, view_length, view_text}
+use Rattle.tokens.proofs.LiteralLaws.{yellow_paper_only}
+use Rattle.lists.proofs.At.{kind_here, test_yes, test_no}
+use Rattle.std.specs.Prelude.{Some, None}
 use Rattle.tokens.specs.Push.{is_value_push, push_size, fits}
 use Rattle.tokens.proofs.Laws.{lt_or_le}
 use Rattle.grammar.specs.Reading.{NONE, a_literal, an_opcode, Simple, Group, Reading}
@@ -22,15 +29,9 @@ use Rattle.grammar.specs.Follows.{Follows}
 use Rattle.grammar.specs.PlainLength.{is_a, value_push, is_operand, measured, has_length, own_bytes, total_bytes, Instruction, instructions, group_instructions, body_instructions, every, plain_length}
 use Rattle.grammar.proofs.Operands.{is_a_lem, operand_says, counted_alone}
 use Rattle.grammar.proofs.Lengths.{total_append}
-use Rattle.statements.specs.Length.{plain_kind, opcode_byte, taken_by, may_follow, own_token_bytes, token_bytes, length_on, length_from}
+use Rattle.statements.specs.Length.{plain_kind, opcode_byte, taken_by, may_follow, own_token_bytes, token_bytes, length_on, length_from, length_told}
 
 -- ---- a token of the walk
-
--- a plain kind is not Eof's
-pub plain_some : (k : ℕ) → plain_kind k ≡ true → 0 < k
-unfolding plain_kind
-plain_some zero e = absurd (true≢false (sym e))
-plain_some (suc k) e = omega arith
 
 -- an operand is a literal
 pub taken_literal : (byte : ℕ) (t : Token) → taken_by byte t ≡ true → t.kind ≡ Literal
@@ -314,3 +315,75 @@ module _ (short : Bool) where
   length_is m all p n r h =
       ap (length_on short 0 0) (sym (drop-drop 1 p all ∙ ap (λ k. drop k all) (add-one p)) ∙ ap (drop 1) (sym (take-append-drop n (drop p all))))
       ∙ body_length m p (take n (drop p all)) r (drop n (drop p all)) h.1
+
+-- whether the token at p is an operand, by its kind and its text
+pub taken_literal_at : {k : ℕ} {literal : List ℕ} {r : Bool} (source : Source) (byte p : ℕ) → KindAt source.tokens.now source.kept.now p k → k ≡ Literal
+    → literal ≡ text_at source.text.now source.tokens.now source.kept.now p → r ≡ not (fits byte literal) → not r ≡ taken_by byte (token_at (all source) p)
+unfolding taken_by
+taken_literal_at source byte p m e f g =
+    let here = kind_here source.text.now source.tokens.now source.kept.now p m in
+    rw (g, not-not, f, test_yes here e, view_text source.text.now source.tokens.now source.kept.now p)
+
+pub taken_no_literal : {k : ℕ} (source : Source) (byte p : ℕ) → KindAt source.tokens.now source.kept.now p k → (k ≡ Literal → ⊥) → eqb k Literal ≡ taken_by byte (token_at (all source) p)
+unfolding taken_by
+taken_no_literal source byte p m e =
+    let here = kind_here source.text.now source.tokens.now source.kept.now p m in
+    rw (test_no here e, ne_eqb _ _ e)
+
+-- ---- the walk of the code, by what it finds at p
+
+module _ (source : Source) (short : Bool) (start byte b p : ℕ) where
+  -- what is left from p on comes to the whole
+  abbrev pub LengthLeft : Type 0
+  LengthLeft = length_on short byte b (drop p (all source)) ≡ length_from short (all source) start
+
+  module _ (w : LengthLeft) {k : ℕ} (m : KindAt source.tokens.now source.kept.now p k) where
+    found : k ≡ (token_at (all source) p).kind
+    found = kind_here source.text.now source.tokens.now source.kept.now p m
+
+    -- behind a value push: what is not its operand, an opcode among them, and its operand
+    module _ (push : true ≡ is_value_push byte) where
+      pub opcode_lacks : k ≡ Opcode → length_from short (all source) start ≡ NONE
+      opcode_lacks e = sym w ∙ length_lacks short byte b p (all source) (sym push) (opcode_not_taken byte (token_at (all source) p) (sym found ∙ e))
+
+      pub operand_lacks : false ≡ taken_by byte (token_at (all source) p) → length_from short (all source) start ≡ NONE
+      operand_lacks e = sym w ∙ length_lacks short byte b p (all source) (sym push) (sym e)
+
+      pub operand_next : {n : ℕ} → true ≡ taken_by byte (token_at (all source) p) → n ≡ push_size byte
+          → (length_on short 0 (b + n) (drop (p + 1) (all source)) ≡ length_from short (all source) start) × (n ≤ 33)
+      operand_next e f = (
+        rw f (sym (length_taken short byte b p (all source) (sym push) (sym e)) ∙ w),
+        omega (arith, f, (yellow_paper_only byte (sym push)).1),
+      )
+
+    -- behind any other token
+    module _ (plain : false ≡ is_value_push byte) where
+      pub opcode_next : {extra : ℕ} → k ≡ Opcode → extra ≡ extra_at source.tokens.now source.kept.now p
+          → length_on short extra (b + 1) (drop (p + 1) (all source)) ≡ length_from short (all source) start
+      opcode_next e f =
+          rw (f ∙ sym (view_extra source.text.now source.tokens.now source.kept.now p))
+          (sym (length_opcode short byte b p (all source) (sym plain) (sym found ∙ e)) ∙ w)
+
+      pub brace_ends : k ≡ CloseBrace → length_from short (all source) start ≡ b
+      brace_ends e = sym w ∙ length_ends short byte b p (all source) (sym plain) (sym found ∙ e)
+
+      pub other_lacks : (k ≡ CloseBrace → ⊥) → false ≡ plain_kind k → length_from short (all source) start ≡ NONE
+      other_lacks e f = sym w ∙ length_none short byte b p (all source) (sym plain) (test_no found e) (rw found at (sym f))
+
+      pub other_next : {n : ℕ} → (k ≡ Opcode → ⊥) → (k ≡ CloseBrace → ⊥) → true ≡ plain_kind k → n ≡ own_token_bytes short (token_at (all source) p)
+          → length_on short 0 (b + n) (drop (p + 1) (all source)) ≡ length_from short (all source) start
+      other_next o e f g =
+          rw g (sym (length_goes short byte b p (all source) (sym plain) (test_no found o) (test_no found e) (rw found at (sym f))) ∙ w)
+
+-- past the last token
+pub no_brace_left : (source : Source) (short : Bool) (start byte b p : ℕ) → LengthLeft source short start byte b p → count source ≤ p → length_from short (all source) start ≡ NONE
+unfolding length_on
+no_brace_left source short start byte b p w h =
+    sym w ∙ ap (length_on short byte b) (drop_of_length-le (all source) (omega (arith, h, view_length source.text.now source.tokens.now source.kept.now)))
+
+-- a length that is told: none, or a number that is not the one for none
+pub told_none : {long : ℕ} → long ≡ NONE → None ≡ length_told long
+told_none e = rw e
+
+pub told_some : {long b : ℕ} → long ≡ b → b < NONE → Some b ≡ length_told long
+told_some {long} {b} e h = rw (e, ne_eqb b NONE (λ z. omega arith))

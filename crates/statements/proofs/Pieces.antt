@@ -8,10 +8,10 @@ use lib.ListN.{length}
 use Rattle.tokens.specs.Number.{statement_width, argument_width}
 use Rattle.tokens.specs.Lent.{put_all}
 use Rattle.tokens.proofs.LentLaws.{put_all_append}
-use Rattle.grammar.specs.Result.{Why, number, beyond, Res, got, bad}
+use Rattle.grammar.specs.Result.{Why, plain, number, beyond, Res, got, bad}
+use Rattle.lists.specs.declared.before.Before.{Before}
 use Rattle.statements.specs.declared.item.Progress.{Progress}
-use Rattle.statements.specs.declared.item.Items.{Items}
-use Rattle.statements.specs.declared.item.Items.TheVariants.{Done, Refused}
+use Rattle.std.specs.Prelude.{Result, Ok, Err}
 use Rattle.statements.specs.Answers.{progressed, Parsed, ProgressWithin}
 
 -- k tokens from s.at on, up to t: n statements with the records rs, and m arguments with the records qs
@@ -56,32 +56,32 @@ piece_then {s} {t} {k = k} {n = n} {m = m} {k' = k'} {n' = n'} {m' = m'} {rs = r
       few_arguments = omega (arith, v.few_arguments, w.few_arguments);
     }
 
-module _ {A : Type 0} (answer : Progress → Res A → Items) (records : ℕ → ℕ → A → List (List ℕ)) (arguments : A → List (List ℕ)) (i a : ℕ) where
+module _ {A : Type 0} (answer : Progress → Res A → Result Progress (ℕ × ℕ)) (records : ℕ → ℕ → A → List (List ℕ)) (arguments : A → List (List ℕ)) (before : Before) where
   -- a piece is what the parser of such a reading promises
   pub piece_parsed : {s t : Progress} {size k n m : ℕ} {rs qs : List (List ℕ)} {st ar st' ar' : List ℕ} {read : Res A} (x : A)
       → Piece s size k n m rs qs st ar t st' ar'
       → read ≡ got x k
-      → answer s (got x k) ≡ Done (progressed s k n m)
-      → records (i + s.statements) (a + s.arguments) x ≡ rs
+      → answer s (got x k) ≡ Ok (progressed s k n m)
+      → records (before.statements + s.statements) (before.arguments + s.arguments) x ≡ rs
       → arguments x ≡ qs
-      → Parsed answer records arguments s i a size read st ar (Done t) st' ar'
+      → Parsed answer records arguments s before size read st ar (Ok t) st' ar'
   piece_parsed {s} {t} {size} {k} {st = st} {ar = ar} {st' = st'} {ar' = ar'} x v e tells first second =
       rw e
       (record {
-        is = ap Done v.is ∙ sym tells;
+        is = ap Ok v.is ∙ sym tells;
         statements_hold = v.statements ∙ ap (put_all statement_width st s.statements) (sym first);
         arguments_hold = v.arguments ∙ ap (put_all argument_width ar s.arguments) (sym second);
         within = rw v.is (omega (arith, v.inside), omega (arith, v.inside), omega (arith, v.few_statements), omega (arith, v.few_arguments));
       })
 
   -- and the other way round
-  pub parsed_piece : {s : Progress} {size k n m : ℕ} {st ar st' ar' : List ℕ} {r : Items} {x : A}
-      → Parsed answer records arguments s i a size (got x k) st ar r st' ar'
-      → answer s (got x k) ≡ Done (progressed s k n m)
-      → (r ≡ Done (progressed s k n m)) × Piece s size k n m (records (i + s.statements) (a + s.arguments) x) (arguments x) st ar (progressed s k n m) st' ar'
+  pub parsed_piece : {s : Progress} {size k n m : ℕ} {st ar st' ar' : List ℕ} {r : Result Progress (ℕ × ℕ)} {x : A}
+      → Parsed answer records arguments s before size (got x k) st ar r st' ar'
+      → answer s (got x k) ≡ Ok (progressed s k n m)
+      → (r ≡ Ok (progressed s k n m)) × Piece s size k n m (records (before.statements + s.statements) (before.arguments + s.arguments) x) (arguments x) st ar (progressed s k n m) st' ar'
   parsed_piece {s} {size} {k} {n} {m} v tells =
-      let is : _ ≡ Done (progressed s k n m) = v.is ∙ tells in
-      let h : ProgressWithin s size (Done (progressed s k n m)) = rw is at v.within in (
+      let is : _ ≡ Ok (progressed s k n m) = v.is ∙ tells in
+      let h : ProgressWithin s size (Ok (progressed s k n m)) = rw is at v.within in (
         is,
         record {
           is = refl;
@@ -94,10 +94,16 @@ module _ {A : Type 0} (answer : Progress → Res A → Items) (records : ℕ →
       )
 
   -- a refusal promises nothing but itself
-  pub refused_parsed : {s : Progress} {size c w : ℕ} {st ar st' ar' : List ℕ} {read : Res A} (y : Why) (p : ℕ)
+  pub refused_parsed : {s : Progress} {size : ℕ} {told : ℕ × ℕ} {st ar st' ar' : List ℕ} {read : Res A} (y : Why) (p : ℕ)
       → read ≡ bad y p
-      → answer s (bad y p) ≡ Refused (number y) (p + beyond y)
-      → c ≡ number y
-      → w ≡ p + beyond y
-      → Parsed answer records arguments s i a size read st ar (Refused c w) st' ar'
-  refused_parsed y p e tells ec ew = rw (e, ec, ew) (record { is = sym tells; statements_hold = tt; arguments_hold = tt; within = tt })
+      → answer s (bad y p) ≡ Err (number y, p + beyond y)
+      → told ≡ (number y, p + beyond y)
+      → Parsed answer records arguments s before size read st ar (Err told) st' ar'
+  refused_parsed y p e tells is = rw (e, is) (record { is = sym tells; statements_hold = tt; arguments_hold = tt; within = tt })
+
+  -- one at its cursor
+  pub refused_here : {s : Progress} {size : ℕ} {st ar st' ar' : List ℕ} {read : Res A} (y p : ℕ)
+      → read ≡ bad (plain y) p
+      → answer s (bad (plain y) p) ≡ Err (y, p + 0)
+      → Parsed answer records arguments s before size read st ar (Err (y, p)) st' ar'
+  refused_here y p e tells = refused_parsed (plain y) p e tells (ap (λ (q : ℕ). (y, q)) (sym (add-zero p)))

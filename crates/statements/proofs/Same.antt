@@ -32,14 +32,16 @@ use Rattle.grammar.proofs.Numbers.{body_ours, ours_reads, held_refused}
 use Rattle.grammar.proofs.Demand.{body_exactly, same_refusal}
 use Rattle.grammar.proofs.Recorded.{as_wide}
 use Rattle.grammar.proofs.Same.{body_turns, told_away, own_numbers, written, same_table, same_words, body_counted}
-use Rattle.statements.specs.declared.entry.Body.{Body}
+use Rattle.std.specs.Prelude.{Result}
+use Rattle.statements.specs.declared.entry.BodyRead.{BodyRead}
+use Rattle.statements.specs.declared.entry.BodyError.{BodyError}
 use Rattle.statements.specs.Call.{values, number_of, after_reading, reading_at, BodyCall}
 use Rattle.statements.proofs.Called.{number_is, Named, Through, Says, says_36, says_38, says_30, says_35, says_31, says_refused, says_33, says_34, says_read, call_says, refused_there, call_cursor, with_room}
 use Rattle.statements.proofs.Fixed.{one_body_answer}
 
 -- two calls in the same mode from the same start
-module _ {mode edition : ℕ} {text words : List ℕ} {start : ℕ} {kept statements arguments : List ℕ} {r : Body} {kept' statements' arguments' : List ℕ}
-    {edition₂ : ℕ} {text₂ words₂ kept₂ statements₂ arguments₂ : List ℕ} {r₂ : Body} {kept₂' statements₂' arguments₂' : List ℕ}
+module _ {mode edition : ℕ} {text words : List ℕ} {start : ℕ} {kept statements arguments : List ℕ} {r : Result BodyRead BodyError} {kept' statements' arguments' : List ℕ}
+    {edition₂ : ℕ} {text₂ words₂ kept₂ statements₂ arguments₂ : List ℕ} {r₂ : Result BodyRead BodyError} {kept₂' statements₂' arguments₂' : List ℕ}
     (call : BodyCall mode edition text words start kept statements arguments r kept' statements' arguments')
     (other : BodyCall mode edition₂ text₂ words₂ start kept₂ statements₂ arguments₂ r₂ kept₂' statements₂' arguments₂') where
   -- the one is refused with a number of the reading, that is one of 1 to 13 or 22. The other has the same edition or one that there is (the first one's is, for it was read), a well-formed list, a kept list
@@ -82,7 +84,7 @@ reading_stays rules ts short start st ar = go (body_at rules ts start) refl
         pick false false = refl
 
 -- what the numbers of one call say that two are compared by
-module _ {mode edition : ℕ} {text words : List ℕ} {start : ℕ} {kept statements arguments : List ℕ} {r : Body} {kept' statements' arguments' : List ℕ}
+module _ {mode edition : ℕ} {text words : List ℕ} {start : ℕ} {kept statements arguments : List ℕ} {r : Result BodyRead BodyError} {kept' statements' arguments' : List ℕ}
     (call : BodyCall mode edition text words start kept statements arguments r kept' statements' arguments') where
   abbrev entrance : ℕ × ℕ
   entrance = body_entrance mode edition text words start (length kept)
@@ -143,8 +145,8 @@ module _ {mode edition : ℕ} {text words : List ℕ} {start : ℕ} {kept statem
       go v is (says_read n rd l f g) = record { through = l; answers = is ∙ rw ((body_exactly (rules_of mode) (kept_tokens text words) start n rd).1 f) }
 
 -- two calls in the same mode and edition from the same start
-module _ {mode edition : ℕ} {text words : List ℕ} {start : ℕ} {kept statements arguments : List ℕ} {r : Body} {kept' statements' arguments' : List ℕ}
-    {text₂ words₂ kept₂ statements₂ arguments₂ : List ℕ} {r₂ : Body} {kept₂' statements₂' arguments₂' : List ℕ}
+module _ {mode edition : ℕ} {text words : List ℕ} {start : ℕ} {kept statements arguments : List ℕ} {r : Result BodyRead BodyError} {kept' statements' arguments' : List ℕ}
+    {text₂ words₂ kept₂ statements₂ arguments₂ : List ℕ} {r₂ : Result BodyRead BodyError} {kept₂' statements₂' arguments₂' : List ℕ}
     (call : BodyCall mode edition text words start kept statements arguments r kept' statements' arguments')
     (other : BodyCall mode edition text₂ words₂ start kept₂ statements₂ arguments₂ r₂ kept₂' statements₂' arguments₂') where
   -- the answers are equal, and not 30. Turned away, nothing lent has changed; else the kept lists have their own tokens' numbers, and the tables the same records, as

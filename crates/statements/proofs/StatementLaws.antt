@@ -1,5 +1,5 @@
 -- What one item's reader and writers did is what the parser of an item promises. Assumes nothing.
-use Prim.Native.Nat.{ℕ, suc, ◌+◌, ◌-◌, ◌≤◌}
+use Prim.Native.Nat.{ℕ, suc, ◌+◌, ◌-◌}
 use native.Mathlib.Nat.{add-zero}
 use native.Mathlib.Numerals.{add-one}
 use native.Mathlib.Omega.{arith}
@@ -9,17 +9,17 @@ use lib.ListN.{length}
 use Rattle.tokens.specs.Token.{Token}
 use Rattle.tokens.specs.Lent.{put_all}
 use Rattle.grammar.specs.Reading.{Argument, Simple, Sort, called}
-use Rattle.grammar.specs.Result.{number, beyond, Res, got, bad}
+use Rattle.grammar.specs.Result.{Res, got, bad}
 use Rattle.grammar.specs.Records.{type_of, simple_record, argument_record, arguments_of, simple_records}
+use Rattle.std.specs.Prelude.{Result, Ok}
+use Rattle.lists.specs.declared.before.Before.{Before}
+use Rattle.lists.specs.declared.list.ArgList.{ArgList}
 use Rattle.statements.specs.declared.item.Progress.{Progress}
 use Rattle.statements.specs.declared.item.Lone.{Lone}
-use Rattle.statements.specs.declared.item.Items.{Items}
-use Rattle.statements.specs.declared.item.Items.TheVariants.{Done}
-use Rattle.lists.specs.declared.list.ArgList.{ArgList}
-use Rattle.lists.specs.declared.list.ArgList.TheVariants as lists
-use Rattle.lists.specs.Answers.{ListRead, ListWithin}
+use Rattle.statements.specs.declared.item.StatementType.{StatementType}
+use Rattle.lists.specs.Answers.{ListWithin}
 use Rattle.statements.specs.Answers.{simple_answer, simple_arguments, SimpleParsed}
-use Rattle.statements.specs.Item.{OneRead, PushRead, with_list, simple_words, further, OnePut, PushPut, CalledPut, ListInside}
+use Rattle.statements.specs.Item.{OneRead, PushRead, with_list, type_number, simple_words, called_behind, called_answer, CalledTable, OnePut, PushPut, ListPut}
 use Rattle.statements.proofs.Pieces.{Piece, piece_parsed, refused_parsed}
 
 -- two tallies with the same numbers
@@ -28,36 +28,36 @@ pub progress_same : {a b c a' b' c' : ℕ} → a ≡ a' → b ≡ b' → c ≡ c
 progress_same e f g = rw (e, f, g)
 
 -- the record of a statement, by what is known of it
-record_words : (i a : ℕ) (x : Simple) (s : Progress) {ty end count place : ℕ} → type_of x.sort ≡ ty → x.first ≡ s.at → x.end ≡ end → length x.args ≡ count → x.place ≡ place
-    → simple_record (i + s.statements) (a + s.arguments) x ≡ simple_words s i a ty end count place
-record_words i a x s e f g h k = rw (e, f, g, h, k, add-one)
+record_words : (before : Before) (x : Simple) (s : Progress) (ty : StatementType) {end count place : ℕ} → type_of x.sort ≡ type_number ty → x.first ≡ s.at → x.end ≡ end → length x.args ≡ count → x.place ≡ place
+    → simple_record (before.statements + s.statements) (before.arguments + s.arguments) x ≡ simple_words s before ty end count place
+record_words before x s ty e f g h k = rw (e, f, g, h, k, add-one)
 
 one_arguments : (x : Simple) → arguments_of (x ∷ []) ≡ x.args
 unfolding arguments_of
 one_arguments x = append-nil x.args
 
-module _ (i a size : ℕ) where
+module _ (before : Before) (size : ℕ) where
   simple_from : {s t : Progress} {k n m : ℕ} {rs qs : List (List ℕ)} {st ar st' ar' : List ℕ} {read : Res (List Simple)} (ss : List Simple)
       → Piece s size k n m rs qs st ar t st' ar'
       → read ≡ got ss k
       → length ss ≡ n
       → length (arguments_of ss) ≡ m
-      → simple_records (i + s.statements) (a + s.arguments) ss ≡ rs
+      → simple_records (before.statements + s.statements) (before.arguments + s.arguments) ss ≡ rs
       → simple_arguments ss ≡ qs
-      → SimpleParsed s i a size read st ar (Done t) st' ar'
-  simple_from ss v e en em er ea = piece_parsed simple_answer simple_records simple_arguments i a ss v e (rw (en, em)) er ea
+      → SimpleParsed s before size read st ar (Ok t) st' ar'
+  simple_from ss v e en em er ea = piece_parsed simple_answer simple_records simple_arguments before ss v e (rw (en, em)) er ea
 
   -- one statement
   pub one_parsed : {s t : Progress} {st ar st' : List ℕ} {read : Res (List Simple)} {x : Lone}
-      → OneRead s.at size read x → OnePut st s i a x t st' → SimpleParsed s i a size read st ar (Done t) st' ar
+      → OneRead s.at size read x → OnePut st s before x t st' → SimpleParsed s before size read st ar (Ok t) st' ar
   unfolding put_all simple_records
   one_parsed {s} {t} {st} {ar} {st'} {x = x} o v =
       simple_from (o.what ∷ []) piece o.is refl
       (ap length (one_arguments o.what ∙ o.args))
-      (ap (λ (w : List ℕ). w ∷ []) (record_words i a o.what s o.sort o.first o.end (ap length o.args) o.place))
+      (ap (λ (w : List ℕ). w ∷ []) (record_words before o.what s x.ty o.sort o.first o.end (ap length o.args) o.place))
       (ap (map argument_record) (one_arguments o.what ∙ o.args))
     where
-      piece : Piece s size o.tokens 1 0 (simple_words s i a x.ty x.end 0 x.place ∷ []) [] st ar t st' ar
+      piece : Piece s size o.tokens 1 0 (simple_words s before x.ty x.end 0 x.place ∷ []) [] st ar t st' ar
       piece =
           record {
             is = v.is ∙ progress_same o.behind refl (sym (add-zero s.arguments));
@@ -70,7 +70,7 @@ module _ (i a size : ℕ) where
 
   -- a push with its literal
   pub push_parsed : {s t : Progress} {st ar st' : List ℕ} {all : List Token} {read : Res (List Simple)}
-      → PushRead s.at size all read → PushPut st s i a t st' → SimpleParsed s i a size read st ar (Done t) st' ar
+      → PushRead s.at size all read → PushPut st s before t st' → SimpleParsed s before size read st ar (Ok t) st' ar
   unfolding put_all simple_records arguments_of
   push_parsed {s} {t} {st} {ar} {st'} {all} o v =
       simple_from _ piece o.is refl refl
@@ -82,7 +82,7 @@ module _ (i a size : ℕ) where
       words_same e f g h j k l = rw (e, f, g, h, j, k, l)
 
       piece : Piece s size 2 2 0
-          ((2 ∷ s.at ∷ (s.at + 1) ∷ (i + s.statements + 1) ∷ 0 ∷ (a + s.arguments) ∷ 0 ∷ s.at ∷ []) ∷ (1 ∷ (s.at + 1) ∷ (s.at + 1 + 1) ∷ (i + (s.statements + 1) + 1) ∷ 0 ∷ (a + s.arguments) ∷ 0 ∷ (s.at + 1) ∷ []) ∷ [])
+          ((2 ∷ s.at ∷ (s.at + 1) ∷ (before.statements + s.statements + 1) ∷ 0 ∷ (before.arguments + s.arguments) ∷ 0 ∷ s.at ∷ []) ∷ (1 ∷ (s.at + 1) ∷ (s.at + 1 + 1) ∷ (before.statements + (s.statements + 1) + 1) ∷ 0 ∷ (before.arguments + s.arguments) ∷ 0 ∷ (s.at + 1) ∷ []) ∷ [])
           [] st ar t st' ar
       piece =
           record {
@@ -95,47 +95,40 @@ module _ (i a size : ℕ) where
           }
 
   -- a name or a builtin with its list
-  pub list_parsed : {s : Progress} {st ar st' ar' : List ℕ} {read : Res (List Simple)} {list : ArgList} {r : Items} (sort : Sort) (t : Token) (lread : Res (List Argument)) (ty : ℕ)
+  pub list_parsed : {s : Progress} {st ar st' ar' : List ℕ} {read : Res (List Simple)} {r : Result Progress (ℕ × ℕ)} (sort : Sort) (t : Token) (lread : Res (List Argument)) (ty : StatementType)
       → read ≡ with_list sort s.at t lread
-      → ListRead s.arguments (s.at + 1) size lread ar list ar'
-      → CalledPut st s i a ty list r st'
-      → type_of sort ≡ ty
-      → SimpleParsed s i a size read st ar r st' ar'
+      → ListPut s before ty size lread st ar r st' ar'
+      → type_of sort ≡ type_number ty
+      → SimpleParsed s before size read st ar r st' ar'
   unfolding put_all simple_records
-  list_parsed {s} {st} {ar} {st'} {ar'} {read} {list} {r} sort t (bad y w) ty e l c ty-is =
-      let c' : CalledPut st s i a ty (lists.Refused (number y) (w + beyond y)) r st' = rw l.is at c in
-      rw c'.is (refused_parsed simple_answer simple_records simple_arguments i a y w e refl refl refl)
-  list_parsed {s} {st} {ar} {st'} {ar'} {read} {list} {r} sort t (got args k) ty e l c ty-is =
-      rw c'.is
+  list_parsed {s} {st} {ar} {st'} {ar'} {read} {r} sort t (bad y w) ty e v ty-is =
+      rw (v.is ∙ ap (called_answer s) v.listed.is) (refused_parsed simple_answer simple_records simple_arguments before y w e refl refl)
+  list_parsed {s} {st} {ar} {st'} {ar'} {read} {r} sort t (got args k) ty e v ty-is =
+      rw (v.is ∙ ap (called_answer s) v.listed.is)
       (simple_from (x ∷ []) piece e refl
       (ap length (one_arguments x))
-      (ap (λ (w : List ℕ). w ∷ []) (record_words i a x s ty-is refl refl (omega arith) refl))
+      (ap (λ (w : List ℕ). w ∷ []) (record_words before x s ty ty-is refl refl (omega arith) refl))
       (ap (map argument_record) (one_arguments x)))
     where
       x : Simple
       x = called sort s.at t (s.at + 1 + k) args
 
-      c' : CalledPut st s i a ty (lists.Done (s.arguments + length args) (s.at + 1 + k)) r st'
-      c' = rw l.is at c
+      list : ArgList
+      list = record { arguments = s.arguments + length args; end = s.at + 1 + k }
 
-      h : ListWithin s.arguments (s.at + 1) size (lists.Done (s.arguments + length args) (s.at + 1 + k))
-      h = rw l.is at l.within
+      table : CalledTable st s before ty (Ok list) st'
+      table = rw v.listed.is at v.table
 
-      piece : Piece s size (suc k) 1 (length args) (simple_words s i a ty (s.at + 1 + k) (s.arguments + length args - s.arguments) s.at ∷ []) (map argument_record args) st ar (further s (s.at + 1 + k) (s.arguments + length args)) st' ar'
+      h : ListWithin s.arguments (s.at + 1) size (Ok list)
+      h = rw v.listed.is at v.listed.within
+
+      piece : Piece s size (suc k) 1 (length args) (simple_words s before ty list.end (list.arguments - s.arguments) s.at ∷ []) (map argument_record args) st ar (called_behind s list) st' ar'
       piece =
           record {
             is = progress_same (omega arith) refl refl;
-            statements = c'.table;
-            arguments = l.records;
+            statements = table;
+            arguments = v.listed.records;
             inside = omega (arith, h.1);
             few_statements = omega arith;
             few_arguments = omega (arith, h.2);
           }
-
--- what a list's writer needs
-pub listed_inside : (s : Progress) {p size : ℕ} {ar ar' : List ℕ} {list : ArgList} (lread : Res (List Argument))
-    → ListRead s.arguments p size lread ar list ar' → size ≤ 65536 → s.arguments ≤ p → ListInside s list
-listed_inside s {p} {size} {list = list} (got args k) l few h =
-    let w : ListWithin s.arguments p size (lists.Done (s.arguments + length args) (p + k)) = rw l.is at l.within in
-    rw l.is (omega arith, omega (arith, w.1, w.2), omega (arith, w.1))
-listed_inside s (bad y w) l few h = rw l.is tt

@@ -1,6 +1,6 @@
 -- Inner: the plain length as the code adds it up: over the tokens of an accepted body, one by one, macro part and labels alike. `short`: one byte pushes a zero. That this is the plain length
 -- of the body's reading is the theorem `length_is` (proofs/LengthLaws).
-use Rattle.std.specs.Prelude.{ℕ, suc, ◌+◌, Bool, cond, not, ◌&&◌, ◌||◌, List, [], ◌∷◌, eqb, drop}
+use Rattle.std.specs.Prelude.{ℕ, suc, ◌+◌, Bool, cond, not, ◌&&◌, ◌||◌, List, [], ◌∷◌, eqb, drop, Option, Some, None}
 use Rattle.tokens.specs.Token.{Token}
 use Rattle.tokens.specs.Kind.{CloseBrace, Colon, Ident, Label, Literal, Opcode}
 use Rattle.tokens.specs.Push.{is_value_push, push_size, fits}
@@ -48,3 +48,7 @@ length_on short byte b (t ∷ ts) =
 -- of the body at place p: from behind its brace on
 abbrev pub length_from : Bool → List Token → ℕ → ℕ
 length_from short all p = length_on short 0 0 (drop (suc p) all)
+
+-- as the code tells it: none where the number is the one for none
+abbrev pub length_told : ℕ → Option ℕ
+length_told long = cond (eqb long NONE) None (Some long)

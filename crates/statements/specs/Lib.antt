@@ -1,5 +1,6 @@
 -- What the promises of the statement layer mean: Call for the entry, the others for its inner functions. The grammar and the reader stand in the crate `grammar`.
 pub mod Call
+pub mod Choice
 pub mod Answers
 pub mod Item
 pub mod Label

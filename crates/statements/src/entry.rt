@@ -1,21 +1,32 @@
 // The entry for one body.
 ghost use Rattle.std.specs.Prelude.{◌≡◌, length, replicate};
-ghost use Rattle.tokens.specs.Token.{view};
 ghost use Rattle.tokens.specs.Place.{Place};
 ghost use Rattle.grammar.specs.Rules.{asks};
-ghost use Rattle.grammar.specs.PlainLength.{is_edition};
-ghost use Rattle.statements.specs.Length.{length_from};
+ghost use Rattle.statements.specs.Length.{length_from, length_told};
 ghost use Rattle.statements.specs.Call.{BodyCall};
-ghost use Rattle.statements.specs.Settled.{Settled, BodyRead};
+ghost use Rattle.statements.specs.Settled.{Settled, BodyTaken};
+ghost use Rattle.tokens.specs.Source.{all};
 
 use crate::body::{is_long, named_once, named_once_long, parse_body};
-use crate::item::{Items, Progress};
+use crate::choice::{Edition, Mode, UnknownEdition, UnknownMode};
+use crate::item::Progress;
 use crate::length::plain_length;
-use tokens::{Door, clear, clear_behind, number, prepare, type_told};
+use lists::Before;
+use tokens::{NameType, Refusal, Source, Unready, clear, clear_behind, number, prepare, type_told};
 
-// What a body call answers.
+// What a body call reads: the cursor behind the body, its statements and arguments, and its plain length, if it has one.
+#[derive(Clone, Copy, Debug, PartialEq, Eq)]
+pub struct BodyRead {
+    pub cursor: usize,
+    pub statements: usize,
+    pub arguments: usize,
+    pub length: Option<usize>,
+}
+
+// Why it reads none. What the door says is written out, and no variant `Door(Unready)`: `at_door`, `values` and `Own` (specs/Call) go by these. It is
+// not compared, as the `Refusal` in it is not.
 #[derive(Drop)]
-pub enum Body {
+pub enum BodyError {
     // 36 and 38: there is no such mode, no such edition.
     UnknownMode,
     UnknownEdition,
@@ -23,13 +34,46 @@ pub enum Body {
     NotWellFormed(usize),
     KeptTooShort(usize),
     StartOutside(usize),
-    // 1 to 13 and 22: number and cursor; type and size of the token there for 7, else 0 and 0.
-    Refused(u32, usize, u32, usize),
+    // 1 to 13 and 22; for 7 the type of the token at its cursor.
+    Refused(Refusal, Option<NameType>),
     // 33 and 34: the records needed.
     StatementsTooSmall(usize),
     ArgumentsTooSmall(usize),
-    // The cursor, the statements, the arguments and the plain length.
-    Read(usize, usize, usize, usize),
+}
+
+// `?` in `read_body` makes this error of the three others. `FileError` (files) has two such impls of its own, being another type.
+impl From<UnknownMode> for BodyError {
+    ghost use Rattle.statements.specs.declared.entry.BodyError.TheVariants as errors;
+
+    ghost from_gives = { λ _ e. e ≡ errors.UnknownMode };
+
+    fn from(_error: UnknownMode) -> BodyError {
+        BodyError::UnknownMode
+    }
+}
+
+impl From<UnknownEdition> for BodyError {
+    ghost use Rattle.statements.specs.declared.entry.BodyError.TheVariants as errors;
+
+    ghost from_gives = { λ _ e. e ≡ errors.UnknownEdition };
+
+    fn from(_error: UnknownEdition) -> BodyError {
+        BodyError::UnknownEdition
+    }
+}
+
+impl From<Unready> for BodyError {
+    ghost use Rattle.statements.specs.Call.{at_door};
+
+    ghost from_gives = { λ error e. e ≡ at_door error };
+
+    fn from(error: Unready) -> BodyError {
+        match error {
+            Unready::NotWellFormed(at) => BodyError::NotWellFormed(at),
+            Unready::KeptTooShort(count) => BodyError::KeptTooShort(count),
+            Unready::StartOutside(start) => BodyError::StartOutside(start),
+        }
+    }
 }
 
 // Both tables zero: no records.
@@ -41,83 +85,81 @@ fn clear_both(statements: &mut [u32], arguments: &mut [u32])
 }
 
 // The answer for what was read: only input that is otherwise accepted has a table called small. After every refusal both tables are zero, and else what stands
-// behind the records; what is in front was written with them, so it need not be cleared before.
+// behind the records; what is in front was written with them, so it need not be cleared before. Each way out clears for itself: a function that only chooses the answer, with one
+// clearing behind it, would be no plainer, since its clause would have to tell the answers apart once more.
 fn settle(
-    text: &[u8],
-    tokens: &[u32],
-    kept: &[u32],
+    source: &Source,
     short: bool,
     start: usize,
-    read: Items,
+    read: Result<Progress, Refusal>,
     statements: &mut [u32],
     arguments: &mut [u32],
-) -> Body
-    requires { Place tokens.now kept.now start }
-    ensures { Settled (view text.now tokens.now kept.now) read
-        (length_from short (view text.now tokens.now kept.now) start)
+) -> Result<BodyRead, BodyError>
+    requires { Place source.now.tokens.now source.now.kept.now start }
+    ensures { Settled (all source.now) read
+        (length_told (length_from short (all source.now) start))
         statements.old arguments.old result statements.new arguments.new }
 {
     match read {
-        Items::Refused(c, q) => {
+        Err(refusal) => {
             clear_both(statements, arguments);
-            let t = type_told(text, tokens, kept, c, q);
-            Body::Refused(c, q, t.ty, t.size)
+            let told = type_told(source, &refusal);
+            Err(BodyError::Refused(refusal, told))
         }
-        Items::Done(t) => {
+        Ok(t) => {
             let m = t.statements;
             let n = t.arguments;
             if statements.len() / number::STATEMENT_WIDTH < m {
                 clear_both(statements, arguments);
-                return Body::StatementsTooSmall(m);
+                return Err(BodyError::StatementsTooSmall(m));
             }
             if arguments.len() / number::ARGUMENT_WIDTH < n {
                 clear_both(statements, arguments);
-                return Body::ArgumentsTooSmall(n);
+                return Err(BodyError::ArgumentsTooSmall(n));
             }
             clear_behind(statements, m, number::STATEMENT_WIDTH);
             clear_behind(arguments, n, number::ARGUMENT_WIDTH);
-            Body::Read(t.at, m, n, plain_length(text, tokens, kept, short, start))
+            Ok(BodyRead {
+                cursor: t.at,
+                statements: m,
+                arguments: n,
+                length: plain_length(source, short, start),
+            })
         }
     }
 }
 
-// The body from a start of the kept list.
+// The body from a start of the kept list. From here on `strict` and `short`, and no `Mode` and `Edition`: the grammar's rule sets are made of the one (`asks strict`, Rules), as
+// clauses of three crates say, and its lengths take the other (`literal_bytes`, PlainLength).
 fn reading(
-    text: &[u8],
-    tokens: &[u32],
-    kept: &[u32],
+    source: &Source,
     strict: bool,
     short: bool,
     start: usize,
     statements: &mut [u32],
     arguments: &mut [u32],
-) -> Body
-    requires { Place tokens.now kept.now start }
-    ensures { BodyRead (asks strict) short text.now tokens.now kept.now start statements.old arguments.old result statements.new arguments.new }
+) -> Result<BodyRead, BodyError>
+    requires { Place source.now.tokens.now source.now.kept.now start }
+    ensures { BodyTaken (asks strict) short (all source.now) start statements.old arguments.old result statements.new arguments.new }
 {
     let s = Progress {
         at: start,
         statements: 0,
         arguments: 0,
     };
-    let mut read = parse_body(text, tokens, kept, strict, s, statements, arguments, 0, 0);
-    if strict {
-        if is_long(start, read) {
-            read = named_once_long(text, tokens, kept, start, read);
-        } else {
-            read = named_once(text, tokens, kept, start, read);
-        }
-    }
-    settle(
-        text, tokens, kept, short, start, read, statements, arguments,
-    )
-}
-
-// One of the two editions of the plain length.
-fn is_edition(edition: u32) -> bool
-    ensures { result ≡ is_edition edition }
-{
-    edition == number::EDITION_FIRST || edition == number::EDITION_SECOND
+    let none = Before {
+        statements: 0,
+        arguments: 0,
+    };
+    let body = parse_body(source, strict, s, statements, arguments, none);
+    let read = if !strict {
+        body
+    } else if is_long(start, &body) {
+        named_once_long(source, start, body)
+    } else {
+        named_once(source, start, body)
+    };
+    settle(source, short, start, read, statements, arguments)
 }
 
 // Reads one body from place `start` of the kept tokens, strictly if the mode is 1, and measures it in an edition. Mode, edition and everything lent are tested first; only then
@@ -131,28 +173,23 @@ pub fn read_body(
     kept: &mut [u32],
     statements: &mut [u32],
     arguments: &mut [u32],
-) -> Body
+) -> Result<BodyRead, BodyError>
     ensures { BodyCall mode edition text.now tokens.now start kept.old statements.old arguments.old result kept.new statements.new arguments.new }
 {
-    if number::MODE_STRICT < mode {
-        return Body::UnknownMode;
-    }
-    if !is_edition(edition) {
-        return Body::UnknownEdition;
-    }
-    match prepare(text, tokens, start, kept) {
-        Door::NotWellFormed(at) => Body::NotWellFormed(at),
-        Door::KeptTooShort(count) => Body::KeptTooShort(count),
-        Door::StartOutside(at) => Body::StartOutside(at),
-        Door::Ready(count) => reading(
-            text,
-            tokens,
-            &kept[0..count],
-            mode == number::MODE_STRICT,
-            edition == number::EDITION_SECOND,
-            start,
-            statements,
-            arguments,
-        ),
-    }
+    let mode = Mode::try_from(mode)?;
+    let edition = Edition::try_from(edition)?;
+    let count = prepare(text, tokens, start, kept)?;
+    let source = Source {
+        text,
+        tokens,
+        kept: &kept[0..count],
+    };
+    reading(
+        &source,
+        mode.is_strict(),
+        edition.is_second(),
+        start,
+        statements,
+        arguments,
+    )
 }

@@ -1,20 +1,19 @@
 // Statements, one item at a time: a reader that writes nothing, the writers of its records, and `parse_item` over both.
-ghost use Rattle.std.specs.Prelude.{◌+◌, ◌≤◌, ◌<◌, ◌≡◌, length};
+ghost use Rattle.std.specs.Prelude.{◌+◌, ◌≤◌, ◌<◌, ◌≡◌};
 ghost use Rattle.tokens.specs.Number.{most_tokens, UnexpectedType, InvalidConstant, InvalidArgCallIdent, statement_width};
-ghost use Rattle.grammar.specs.Reading.{a_constant, an_argument_call};
-ghost use Rattle.grammar.specs.Records.{type_of};
 ghost use Rattle.tokens.specs.Kind.{CloseBracket, OpenParen, RightAngle};
-ghost use Rattle.tokens.specs.Token.{view};
-ghost use Rattle.tokens.specs.Place.{kind_at, extra_at, text_at, Place, tokens_from};
+ghost use Rattle.tokens.specs.Place.{kind_at, extra_at, text_at, Place};
 ghost use Rattle.tokens.specs.Lent.{put};
+ghost use Rattle.tokens.specs.Refusal.{wrong_number};
 ghost use Rattle.grammar.specs.Result.{plain, expect};
 ghost use Rattle.grammar.specs.Reader.{closed_list, item};
 ghost use Rattle.lists.specs.Answers.{one};
 ghost use Rattle.statements.specs.Answers.{Counting, SimpleParsed};
-ghost use Rattle.statements.specs.Item.{statement_words, simple_words, further, Small, enclosed_item, opcode_item, ident_item, ItemRead, OnePut, PushPut, CalledPut, ListPut, ListInside};
+ghost use Rattle.statements.specs.Item.{statement_words, simple_words, Small, of_one, enclosed_item, opcode_item, ident_item, ItemRead, OnePut, PushPut, CalledPut, ListPut, ListInside};
+ghost use Rattle.tokens.specs.Source.{all, all_from, count};
 
-use lists::{ArgList, Sort, parse_args};
-use tokens::{extra_at, is_value_push, kind, kind_at, number, push_overflows, put_record, text_at};
+use lists::{ArgList, Before, Sort, parse_args};
+use tokens::{Refusal, Source, Wrong, is_value_push, kind, push_overflows, put_record};
 
 // How far the reading is: the next place, and the records written so far.
 #[derive(Clone, Copy)]
@@ -24,17 +23,55 @@ pub struct Progress {
     pub arguments: usize,
 }
 
-// The progress behind what was read; or a refusal's number and cursor.
-#[derive(Clone, Copy)]
-pub enum Items {
-    Done(Progress),
-    Refused(u32, usize),
+impl Progress {
+    ghost use Rattle.std.specs.Prelude.{◌≤◌, ◌≡◌};
+    ghost use Rattle.tokens.specs.Number.{most_tokens};
+    ghost use Rattle.statements.specs.Item.{further};
+    ghost use Rattle.statements.specs.Label.{skipped};
+
+    // The progress behind a statement that ends at `end`.
+    fn behind(self, end: usize, arguments: usize) -> Progress
+        requires { self.statements ≤ most_tokens }
+        ensures { result ≡ further self end arguments }
+    {
+        Progress {
+            at: end,
+            statements: self.statements + 1,
+            arguments,
+        }
+    }
+
+    // The progress n tokens further, with m records that are counted already.
+    pub(crate) fn skip(self, n: usize, m: usize) -> Progress
+        requires { (self.at ≤ most_tokens) × (self.statements ≤ most_tokens) × (n ≤ 2) × (m ≤ 1) }
+        ensures { result ≡ skipped self n m }
+    {
+        Progress {
+            at: self.at + n,
+            statements: self.statements + m,
+            arguments: self.arguments,
+        }
+    }
+}
+
+// The types of a statement, by document 01's numbers.
+#[derive(Clone, Copy, Debug, PartialEq, Eq)]
+pub enum StatementType {
+    Literal = 1,
+    Opcode = 2,
+    LabelCall = 3,
+    Invocation = 4,
+    Label = 5,
+    Constant = 6,
+    ArgumentCall = 7,
+    Builtin = 8,
+    Code = 9,
 }
 
 // A statement's eight words.
-#[derive(Drop)]
+#[derive(Clone, Copy)]
 pub struct Statement {
-    pub ty: u32,
+    pub ty: StatementType,
     pub first: u32,
     pub end: u32,
     pub inner: u32,
@@ -45,161 +82,140 @@ pub struct Statement {
 }
 
 // A statement without arguments as it is read: its type, the place behind it, and that of its name or value.
-#[derive(Drop)]
+#[derive(Clone, Copy)]
 pub struct Lone {
-    pub ty: u32,
+    pub ty: StatementType,
     pub end: usize,
     pub place: usize,
 }
 
-// What stands at a place: one statement; a value push with its literal; a name with a call list behind it; a builtin, whose list
-// has yet to be looked at; or a refusal's number and cursor.
-#[derive(Drop)]
+// What stands at a place: one statement; a value push with its literal; a name with a call list behind it; or a builtin, whose list
+// has yet to be looked at.
+#[derive(Clone, Copy)]
 pub enum Item {
     One(Lone),
     Push,
     Call,
     Builtin,
-    Refused(u32, usize),
 }
 
-// ---- reading
-
-// A name between two signs, the opening one at p.
-fn enclosed(tokens: &[u32], kept: &[u32], p: usize, wrong: u32, close: u32, ty: u32) -> Item
-    requires { Place tokens.now kept.now p }
-    ensures { result ≡ enclosed_item wrong close ty p (kind_at tokens.now kept.now (p + 1)) (kind_at tokens.now kept.now (p + 2)) }
+// A statement of the one token at p, a place that is bounded by a clause, as in lists.
+fn one_token(ty: StatementType, p: usize) -> Lone
+    requires { p ≤ most_tokens }
+    ensures { result ≡ of_one ty p }
 {
-    if kind_at(tokens, kept, p + 1) != kind::IDENT {
-        return Item::Refused(wrong, p + 1);
+    Lone {
+        ty,
+        end: p + 1,
+        place: p,
     }
-    if kind_at(tokens, kept, p + 2) != close {
-        return Item::Refused(number::UNEXPECTED_TYPE, p + 2);
+}
+
+// A name between two signs, the opening one at p. `Place` is a clause here and below, as in lists: the place changes from call to call.
+fn enclosed(
+    source: &Source,
+    p: usize,
+    wrong: Wrong,
+    close: u32,
+    ty: StatementType,
+) -> Result<Item, Refusal>
+    requires { Place source.now.tokens.now source.now.kept.now p }
+    ensures { result ≡ enclosed_item (wrong_number wrong) close ty p (kind_at source.now.tokens.now source.now.kept.now (p + 1)) (kind_at source.now.tokens.now source.now.kept.now (p + 2)) }
+{
+    if source.kind_at(p + 1) != kind::IDENT {
+        return Err(Refusal::new(wrong, p + 1));
     }
-    Item::One(Lone {
-        ty: ty,
+    if source.kind_at(p + 2) != close {
+        return Err(Refusal::new(Wrong::UnexpectedType, p + 2));
+    }
+    Ok(Item::One(Lone {
+        ty,
         end: p + 3,
         place: p + 1,
-    })
+    }))
 }
 
-// `[` Ident `]`, from its bracket.
-fn parse_constant_push(tokens: &[u32], kept: &[u32], p: usize) -> Item
-    requires { Place tokens.now kept.now p }
-    ensures { result ≡ enclosed_item InvalidConstant CloseBracket (type_of a_constant) p (kind_at tokens.now kept.now (p + 1)) (kind_at tokens.now kept.now (p + 2)) }
+// `[` Ident `]`, from its bracket. This and the next have the names of the Rust's functions; each is one call of `enclosed`.
+fn parse_constant_push(source: &Source, p: usize) -> Result<Item, Refusal>
+    requires { Place source.now.tokens.now source.now.kept.now p }
+    ensures { result ≡ enclosed_item InvalidConstant CloseBracket StatementType.Constant p (kind_at source.now.tokens.now source.now.kept.now (p + 1)) (kind_at source.now.tokens.now source.now.kept.now (p + 2)) }
 {
     enclosed(
-        tokens,
-        kept,
+        source,
         p,
-        number::INVALID_CONSTANT,
+        Wrong::InvalidConstant,
         kind::CLOSE_BRACKET,
-        number::STATEMENT_CONSTANT,
+        StatementType::Constant,
     )
 }
 
 // `<` Ident `>`, from its angle.
-fn parse_arg_call(tokens: &[u32], kept: &[u32], p: usize) -> Item
-    requires { Place tokens.now kept.now p }
-    ensures { result ≡ enclosed_item InvalidArgCallIdent RightAngle (type_of an_argument_call) p (kind_at tokens.now kept.now (p + 1)) (kind_at tokens.now kept.now (p + 2)) }
+fn parse_arg_call(source: &Source, p: usize) -> Result<Item, Refusal>
+    requires { Place source.now.tokens.now source.now.kept.now p }
+    ensures { result ≡ enclosed_item InvalidArgCallIdent RightAngle StatementType.ArgumentCall p (kind_at source.now.tokens.now source.now.kept.now (p + 1)) (kind_at source.now.tokens.now source.now.kept.now (p + 2)) }
 {
     enclosed(
-        tokens,
-        kept,
+        source,
         p,
-        number::INVALID_ARG_CALL_IDENT,
+        Wrong::InvalidArgCallIdent,
         kind::RIGHT_ANGLE,
-        number::STATEMENT_ARGUMENT_CALL,
+        StatementType::ArgumentCall,
     )
 }
 
 // The opcode at p; where a value push takes its literal, with that.
-fn opcode_item(text: &[u8], tokens: &[u32], kept: &[u32], takes: bool, p: usize) -> Item
-    requires { Place tokens.now kept.now p }
-    ensures { result ≡ opcode_item takes p (extra_at tokens.now kept.now p) (kind_at tokens.now kept.now (p + 1)) (text_at text.now tokens.now kept.now (p + 1)) }
+fn opcode_item(source: &Source, takes: bool, p: usize) -> Result<Item, Refusal>
+    requires { Place source.now.tokens.now source.now.kept.now p }
+    ensures { result ≡ opcode_item takes p (extra_at source.now.tokens.now source.now.kept.now p) (kind_at source.now.tokens.now source.now.kept.now (p + 1)) (text_at source.now.text.now source.now.tokens.now source.now.kept.now (p + 1)) }
 {
-    if !takes {
-        return Item::One(Lone {
-            ty: number::STATEMENT_OPCODE,
-            end: p + 1,
-            place: p,
-        });
+    let byte = source.extra_at(p);
+    if !takes || !is_value_push(byte) {
+        return Ok(Item::One(one_token(StatementType::Opcode, p)));
     }
-    let byte = extra_at(tokens, kept, p);
-    if !is_value_push(byte) {
-        return Item::One(Lone {
-            ty: number::STATEMENT_OPCODE,
-            end: p + 1,
-            place: p,
-        });
+    if source.kind_at(p + 1) != kind::LITERAL {
+        return Err(Refusal::new(Wrong::InvalidPush, p + 1));
     }
-    if kind_at(tokens, kept, p + 1) != kind::LITERAL {
-        return Item::Refused(number::INVALID_PUSH, p + 1);
+    if push_overflows(byte, source.text_at(p + 1)) {
+        return Err(Refusal::new(Wrong::InvalidPush, p + 2));
     }
-    if push_overflows(byte, text_at(text, tokens, kept, p + 1)) {
-        return Item::Refused(number::INVALID_PUSH, p + 2);
-    }
-    Item::Push
+    Ok(Item::Push)
 }
 
 // The Ident at p: a call if a `(` stands behind it, else a label call.
-fn ident_item(tokens: &[u32], kept: &[u32], p: usize) -> Item
-    requires { Place tokens.now kept.now p }
-    ensures { result ≡ ident_item p (kind_at tokens.now kept.now (p + 1)) }
+fn ident_item(source: &Source, p: usize) -> Result<Item, Refusal>
+    requires { Place source.now.tokens.now source.now.kept.now p }
+    ensures { result ≡ ident_item p (kind_at source.now.tokens.now source.now.kept.now (p + 1)) }
 {
-    if kind_at(tokens, kept, p + 1) == kind::OPEN_PAREN {
-        return Item::Call;
+    if source.kind_at(p + 1) == kind::OPEN_PAREN {
+        return Ok(Item::Call);
     }
-    Item::One(Lone {
-        ty: number::STATEMENT_LABEL_CALL,
-        end: p + 1,
-        place: p,
-    })
+    Ok(Item::One(one_token(StatementType::LabelCall, p)))
 }
 
 // The item at p, up to the list that it may have.
-fn one_item(text: &[u8], tokens: &[u32], kept: &[u32], takes: bool, wrong: u32, p: usize) -> Item
-    requires { Place tokens.now kept.now p }
-    ensures { ItemRead p (length kept.now) (view text.now tokens.now kept.now)
-        (item takes wrong p (tokens_from text.now tokens.now kept.now p)) result }
+#[tactic(auto, using(crate::proofs::ItemLaws::literal_here, crate::proofs::ItemLaws::builtin_here, crate::proofs::ItemLaws::other_here))]
+fn one_item(source: &Source, takes: bool, wrong: Wrong, p: usize) -> Result<Item, Refusal>
+    requires { Place source.now.tokens.now source.now.kept.now p }
+    ensures { ItemRead p (count source.now) (all source.now)
+        (item takes (wrong_number wrong) p (all_from source.now p)) result }
 {
-    match kind_at(tokens, kept, p) {
-        kind::LITERAL => {
-            Item::One(Lone {
-                ty: number::STATEMENT_LITERAL,
-                end: p + 1,
-                place: p,
-            })
-        }
-        kind::OPCODE => opcode_item(text, tokens, kept, takes, p),
-        kind::IDENT => ident_item(tokens, kept, p),
-        kind::OPEN_BRACKET => parse_constant_push(tokens, kept, p),
-        kind::LEFT_ANGLE => parse_arg_call(tokens, kept, p),
-        kind::BUILTIN_FUNCTION => Item::Builtin,
-        _ => Item::Refused(wrong, p),
+    match source.kind_at(p) {
+        kind::LITERAL => Ok(Item::One(one_token(StatementType::Literal, p))),
+        kind::OPCODE => opcode_item(source, takes, p),
+        kind::IDENT => ident_item(source, p),
+        kind::OPEN_BRACKET => parse_constant_push(source, p),
+        kind::LEFT_ANGLE => parse_arg_call(source, p),
+        kind::BUILTIN_FUNCTION => Ok(Item::Builtin),
+        _ => Err(Refusal::new(wrong, p)),
     }
 }
 
-// ---- writing
-
-// The progress behind a statement that ends at `end`.
-fn moved(s: Progress, end: usize, arguments: usize) -> Progress
-    requires { s.statements ≤ most_tokens }
-    ensures { result ≡ further s end arguments }
-{
-    Progress {
-        at: end,
-        statements: s.statements + 1,
-        arguments: arguments,
-    }
-}
-
-// Statement record number n.
+// Statement record number n; the words have no method of their own, being written here alone.
 pub fn put_statement(statements: &mut [u32], n: usize, s: Statement)
     ensures { statements.new ≡ put statement_width statements.old n (statement_words s) }
 {
     let words = [
-        s.ty,
+        s.ty as u32,
         s.first,
         s.end,
         s.inner,
@@ -211,30 +227,30 @@ pub fn put_statement(statements: &mut [u32], n: usize, s: Statement)
     put_record(statements, n, &words);
 }
 
-// The record of a statement that is no label and begins at s.at, as the next one: number i + s.statements of the whole table.
+// The record of a statement that is no label and begins at s.at, as the next one: number before.statements + s.statements of the whole table. `Small`, and `Counting` below,
+// are facts of a progress, of `before` and of places together, all but `before` other ones at each call: so they are clauses, and no value carries them.
 fn put_simple(
     statements: &mut [u32],
     s: Progress,
-    i: usize,
-    a: usize,
-    ty: u32,
+    before: Before,
+    ty: StatementType,
     end: usize,
     arguments: usize,
     place: usize,
 )
-    requires { Small s i a end arguments place }
-    ensures { statements.new ≡ put statement_width statements.old s.statements (simple_words s i a ty end arguments place) }
+    requires { Small s before end arguments place }
+    ensures { statements.new ≡ put statement_width statements.old s.statements (simple_words s before ty end arguments place) }
 {
     let first = s.at as u32;
-    let inner = (i + s.statements + 1) as u32;
-    let argument = (a + s.arguments) as u32;
+    let inner = (before.statements + s.statements + 1) as u32;
+    let argument = (before.arguments + s.arguments) as u32;
     let words = Statement {
-        ty: ty,
-        first: first,
+        ty,
+        first,
         end: end as u32,
-        inner: inner,
+        inner,
         inners: 0,
-        argument: argument,
+        argument,
         arguments: arguments as u32,
         place: place as u32,
     };
@@ -242,134 +258,101 @@ fn put_simple(
 }
 
 // One statement, and the progress behind it.
-fn put_one(statements: &mut [u32], s: Progress, i: usize, a: usize, x: Lone) -> Progress
-    requires { Small s i a x.end 0 x.place }
-    ensures { OnePut statements.old s i a x result statements.new }
+fn put_one(statements: &mut [u32], s: Progress, before: Before, x: Lone) -> Progress
+    requires { Small s before x.end 0 x.place }
+    ensures { OnePut statements.old s before x result statements.new }
 {
-    let ty = x.ty;
-    let end = x.end;
-    put_simple(statements, s, i, a, ty, end, 0, x.place);
-    moved(s, end, s.arguments)
+    put_simple(statements, s, before, x.ty, x.end, 0, x.place);
+    s.behind(x.end, s.arguments)
 }
 
-// A statement with the list of arguments behind it, which is read already; or the list's refusal.
+// A statement with the list of arguments behind it, which is read already.
 fn put_called(
     statements: &mut [u32],
     s: Progress,
-    i: usize,
-    a: usize,
-    ty: u32,
+    before: Before,
+    ty: StatementType,
     list: ArgList,
-) -> Items
-    requires small { Small s i a 0 0 0 }
+) -> Progress
+    requires small { Small s before 0 0 0 }
     requires list_inside { ListInside s list }
-    ensures { CalledPut statements.old s i a ty list result statements.new }
+    ensures { CalledPut statements.old s before ty list result statements.new }
 {
-    match list {
-        ArgList::Done(m, e) => {
-            let at = s.at;
-            let own = m - s.arguments;
-            put_simple(statements, s, i, a, ty, e, own, at);
-            Items::Done(moved(s, e, m))
-        }
-        ArgList::Refused(c, q) => Items::Refused(c, q),
-    }
+    let own = list.arguments - s.arguments;
+    put_simple(statements, s, before, ty, list.end, own, s.at);
+    s.behind(list.end, list.arguments)
 }
 
 // A value push at s.at with its literal: two statements.
-fn put_push(statements: &mut [u32], s: Progress, i: usize, a: usize) -> Progress
-    requires small { Small s i a 0 0 0 }
+fn put_push(statements: &mut [u32], s: Progress, before: Before) -> Progress
+    requires small { Small s before 0 0 0 }
     requires at_bound { (s.at + 2 ≤ most_tokens) × (s.statements ≤ s.at) }
-    ensures { PushPut statements.old s i a result statements.new }
+    ensures { PushPut statements.old s before result statements.new }
 {
     let p = s.at + 1;
-    let opcode = Lone {
-        ty: number::STATEMENT_OPCODE,
-        end: p,
-        place: s.at,
-    };
-    let t = put_one(statements, s, i, a, opcode);
-    let end = p + 1;
-    let literal = Lone {
-        ty: number::STATEMENT_LITERAL,
-        end: end,
-        place: p,
-    };
-    put_one(statements, t, i, a, literal)
+    let opcode = one_token(StatementType::Opcode, s.at);
+    let t = put_one(statements, s, before, opcode);
+    let literal = one_token(StatementType::Literal, p);
+    put_one(statements, t, before, literal)
 }
 
 // A statement at s.at and the list of arguments behind it: a call, or a builtin. A function of its own, so that what a list's reader is lent costs no other item.
+// Both tables beside each other, here and below: of a struct of both each function would have to promise that their lengths stay, as files' entry says.
 fn parse_called(
-    text: &[u8],
-    tokens: &[u32],
-    kept: &[u32],
+    source: &Source,
     sort: Sort,
-    ty: u32,
+    ty: StatementType,
     s: Progress,
     statements: &mut [u32],
     arguments: &mut [u32],
-    i: usize,
-    a: usize,
-) -> Items
-    requires counting { Counting tokens.now kept.now s i a }
-    requires at_in_bounds { s.at < length kept.now }
-    ensures { ListPut s i a ty (length kept.now)
-        (expect OpenParen (plain UnexpectedType) (λ o. closed_list (one sort)) (s.at + 1) (tokens_from text.now tokens.now kept.now (s.at + 1)))
+    before: Before,
+) -> Result<Progress, Refusal>
+    requires counting { Counting source.now.tokens.now source.now.kept.now s before }
+    requires at_in_bounds { s.at < count source.now }
+    ensures { ListPut s before ty (count source.now)
+        (expect OpenParen (plain UnexpectedType) (λ o. closed_list (one sort)) (s.at + 1) (all_from source.now (s.at + 1)))
         statements.old arguments.old result statements.new arguments.new }
 {
-    let p = s.at + 1;
-    let n = s.arguments;
-    let list = parse_args(text, tokens, kept, sort, p, arguments, n);
-    put_called(statements, s, i, a, ty, list)
+    let list = parse_args(source, sort, s.at + 1, arguments, s.arguments)?;
+    Ok(put_called(statements, s, before, ty, list))
 }
 
-// An item at s.at, written from record s.statements and s.arguments of the lent tables on; i and a are the numbers of records before the lent tables.
-// `takes`: a value push takes its literal here; `wrong`: the number for a token that begins no item.
+// An item at s.at, written from record s.statements and s.arguments of the lent tables on.
+// `takes`: a value push takes its literal here; `wrong`: what is wrong with a token that begins no item. Two parameters, as of the grammar's `item` (Reader).
 pub fn parse_item(
-    text: &[u8],
-    tokens: &[u32],
-    kept: &[u32],
+    source: &Source,
     takes: bool,
-    wrong: u32,
+    wrong: Wrong,
     s: Progress,
     statements: &mut [u32],
     arguments: &mut [u32],
-    i: usize,
-    a: usize,
-) -> Items
-    requires { Counting tokens.now kept.now s i a }
-    ensures { SimpleParsed s i a (length kept.now)
-        (item takes wrong s.at (tokens_from text.now tokens.now kept.now s.at))
+    before: Before,
+) -> Result<Progress, Refusal>
+    requires { Counting source.now.tokens.now source.now.kept.now s before }
+    ensures { SimpleParsed s before (count source.now)
+        (item takes (wrong_number wrong) s.at (all_from source.now s.at))
         statements.old arguments.old result statements.new arguments.new }
 {
-    let at = s.at;
-    match one_item(text, tokens, kept, takes, wrong, at) {
-        Item::One(x) => Items::Done(put_one(statements, s, i, a, x)),
-        Item::Push => Items::Done(put_push(statements, s, i, a)),
+    match one_item(source, takes, wrong, s.at)? {
+        Item::One(x) => Ok(put_one(statements, s, before, x)),
+        Item::Push => Ok(put_push(statements, s, before)),
         Item::Call => parse_called(
-            text,
-            tokens,
-            kept,
+            source,
             Sort::Call,
-            number::STATEMENT_INVOCATION,
+            StatementType::Invocation,
             s,
             statements,
             arguments,
-            i,
-            a,
+            before,
         ),
         Item::Builtin => parse_called(
-            text,
-            tokens,
-            kept,
+            source,
             Sort::Builtin,
-            number::STATEMENT_BUILTIN,
+            StatementType::Builtin,
             s,
             statements,
             arguments,
-            i,
-            a,
+            before,
         ),
-        Item::Refused(c, q) => Items::Refused(c, q),
     }
 }

@@ -2,10 +2,12 @@
 #![tactic(auto)]
 
 mod body;
+mod choice;
 mod entry;
 mod item;
 mod length;
 
 pub use body::{is_long, named_once, named_once_long, parse_body};
-pub use entry::{Body, read_body};
-pub use item::{Items, Progress, Statement, put_statement};
+pub use choice::{Edition, Mode, UnknownEdition, UnknownMode};
+pub use entry::{BodyError, BodyRead, read_body};
+pub use item::{Progress, Statement, StatementType, put_statement};

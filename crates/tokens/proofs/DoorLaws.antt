@@ -1,23 +1,26 @@
 -- The door's walks over the tokens, a turn at a time, and what its answers mean. Assumes nothing.
-use Prim.Native.Nat.{ℕ, zero, suc, ◌+◌, ◌-◌, ◌*◌, ◌≤◌, ◌<◌}
+use Prim.Native.Nat.{ℕ, zero, suc, ◌+◌, ◌-◌, ◌*◌, ◌/◌, ◌≤◌, ◌<◌}
 use mathlib.Core.Path.{◌≡◌, refl, sym, ap, ◌∙◌}
 use mathlib.Core.Bool.{Bool, true, false, cond, not, ◌&&◌, and-true, and-false, true≢false, false≢true}
 use borrow.Author.Tests.{not-true, ltb-true, ltb-false, leb-true, eqb-true, lt-ltb, le-ltb, le-leb, eq-eqb, ne_eqb}
 use lib.Dec.{ltb, leb, eqb}
-use mathlib.Core.List.{List, [], ◌∷◌}
+use mathlib.Core.List.{List, [], ◌∷◌, ◌++◌, append-nil}
 use mathlib.Core.Logic.{⊎_elim}
-use native.Mathlib.Nat.{eq-or-lt_of_le, add-zero, sub-zero}
+use native.Mathlib.Nat.{eq-or-lt_of_le, add-zero, zero-add, zero-mul, sub-zero}
 use native.Mathlib.Omega.{arith}
 use native.Mathlib.Numerals.{add-one}
-use lib.ListN.{length, get_or, set}
-use lib.Seq.{sets, set-set}
+use lib.ListN.{length, get_or, set, take, drop, drop_of_length-le, length-take}
+use Rattle.std.proofs.lemmas.List.{get_or-take, get_or-drop, drop-drop, length-drop, take_all}
+use Rattle.std.specs.Simd.{first_chunks}
+use lib.Seq.{sets, set-set, sets-eq, length-take-le}
 use Rattle.tokens.specs.Kind.{Eof, kinds}
 use Rattle.tokens.specs.Literal.{is_literal}
 use Rattle.tokens.specs.Token.{kind_of, start_of, end_of, extra_of, token_count, part, numbers}
 use Rattle.tokens.specs.WellFormed.{good_after, good, bad_from, first_bad, prev_end, range_good, eof_good, text_good, extra_good, contents_good, whole_good, WellFormed}
 use Rattle.tokens.specs.Number as number
-use Rattle.tokens.specs.declared.door.Door.{Door}
-use Rattle.tokens.specs.Door.{values, door, kept_after, Prepared}
+use Rattle.std.specs.Prelude.{Option, Some, None}
+use Rattle.std.proofs.lemmas.Option.{none-some, same_Some}
+use Rattle.tokens.specs.Door.{door}
 use Rattle.tokens.specs.Kept.{dropped, kept_from, kept_of, keep_unless}
 use Rattle.tokens.specs.Keep.{EofLast}
 use Rattle.tokens.proofs.Laws.{lt_or_le, left_step, left_none, and_left, and_right}
@@ -275,13 +278,6 @@ door_formed text words start room f =
     let none : token_count words ≤ first_bad text words = ⊎_elim (λ (h : first_bad text words < token_count words). absurd (unformed text words h f)) (λ (h : token_count words ≤ first_bad text words). h) (lt_or_le (first_bad text words) (token_count words)) in
     rw (f.whole, le-ltb _ _ none)
 
--- the door's promise, from what was examined
-pub prepared : {text words kept kept' : List ℕ} {start : ℕ} {x d : Door} → values x ≡ door text words start (length kept) → x ≡ d
-    → kept' ≡ kept_after (values d).0 words kept
-    → Prepared text words start kept d kept'
-prepared {words = words} {kept = kept} e is f =
-    let said = ap values (sym is) ∙ e in record { answer = said; list = f ∙ ap (λ (v : ℕ × ℕ). kept_after v.0 words kept) said }
-
 -- ---- the kept list of a well-formed list
 
 -- a token that is not dropped is in the kept list, so that it is not empty
@@ -365,9 +361,9 @@ file_not_31 text words room e = go (door text words 0 room) (door_means text wor
 
 -- ---- the walk that tests and counts
 
--- the kept count where no token is bad; 0 where one is
-abbrev pub count_good : List ℕ → List ℕ → ℕ
-count_good text words = cond (ltb (first_bad text words) (token_count words)) 0 (length (kept_of words))
+-- the kept count where no token is bad
+abbrev pub count_good : List ℕ → List ℕ → Option ℕ
+count_good text words = cond (ltb (first_bad text words) (token_count words)) None (Some (length (kept_of words)))
 
 -- token number i, the last one or not, is as it should be, but that it may end behind the text
 pub record Sound (text words : List ℕ) (last : Bool) (i : ℕ) : Type 0 where
@@ -423,7 +419,7 @@ ends_grow text words (suc i) each j h = go (ends_grow text words i (λ k b. each
         (eq-or-lt_of_le (omega arith))
 
 -- one is bad: nothing is counted
-none_counted : (text words : List ℕ) (i : ℕ) → i < token_count words → (good text words i ≡ true → ⊥) → 0 ≡ count_good text words
+none_counted : (text words : List ℕ) (i : ℕ) → i < token_count words → (good text words i ≡ true → ⊥) → None ≡ count_good text words
 none_counted text words i h bad =
     ⊎_elim
     (λ (b : first_bad text words < token_count words). rw (lt-ltb _ _ b))
@@ -431,35 +427,114 @@ none_counted text words i h bad =
     (lt_or_le (first_bad text words) (token_count words))
 
 -- none is bad: the kept ones are counted
-all_counted : (text words : List ℕ) → WellFormed text words → length (kept_of words) ≡ count_good text words
+all_counted : (text words : List ℕ) → WellFormed text words → Some (length (kept_of words)) ≡ count_good text words
 all_counted text words f =
     ⊎_elim
     (λ (b : first_bad text words < token_count words). absurd (unformed text words b f))
     (λ (b : token_count words ≤ first_bad text words). rw (le-ltb _ _ b))
     (lt_or_le (first_bad text words) (token_count words))
 
--- the walk stands at word `at`, where token number i begins: the tokens before it are sound, and the kept ones of them are counted, and the last one with them
-pub record Walked (text words : List ℕ) (count prev at : ℕ) : Type 0 where
-  pub i : ℕ
-  pub place : i * 4 ≡ at
+-- token number i stands in these four words
+pub record Stands (words : List ℕ) (i : ℕ) (four : List ℕ) : Type 0 where
+  kind : get_or four 0 0 ≡ kind_of words i
+  start : get_or four 1 0 ≡ start_of words i
+  end : get_or four 2 0 ≡ end_of words i
+  extra : get_or four 3 0 ≡ extra_of words i
+
+-- word j of four number i
+chunk_word : (n : ℕ) (ws : List ℕ) (i j : ℕ) → i < n → j < 4 → get_or (get_or (first_chunks 4 n ws) i []) j 0 ≡ get_or ws (i * 4 + j) 0
+chunk_word zero ws i j h k = absurd (omega arith)
+chunk_word (suc n) ws zero j h k = rw (zero-mul, zero-add) (get_or-take 4 ws j 0 k)
+chunk_word (suc n) ws (suc i) j h k =
+    let next : 4 + (i * 4 + j) ≡ suc i * 4 + j = omega arith in
+    chunk_word n (drop 4 ws) i j (omega arith) k ∙ get_or-drop 4 ws (i * 4 + j) 0 ∙ ap (λ (m : ℕ). get_or ws m 0) next
+
+-- the words of a list that is good as a whole are four a token
+whole_words : (text words : List ℕ) → whole_good text words ≡ true → length words ≡ token_count words * 4
+whole_words text words e = omega (arith, (whole_says text words e).four)
+
+-- the walk stands at token number i: the tokens before it are sound, and the kept ones of them are counted, and the last one with them
+pub record Walked (text words : List ℕ) (count prev i : ℕ) : Type 0 where
   pub inside : i < token_count words
   pub prev_is : prev ≡ prev_end words i
   pub few : count ≤ i + 1
   pub counts : count + length (kept_from words (token_count words - i) i) ≡ 1 + length (kept_of words)
   pub each : (j : ℕ) → j < i → Sound text words false j
 
--- the words of a list that is good as a whole are four a token
-whole_words : (text words : List ℕ) → whole_good text words ≡ true → length words ≡ token_count words * 4
-whole_words text words e = omega (arith, (whole_says text words e).four)
+-- the walk stands at the first of the fours that are left: i are behind it
+pub record Left (text words : List ℕ) (fours left : List (List ℕ)) (count prev : ℕ) : Type 0 where
+  pub i : ℕ
+  pub walked : Walked text words count prev i
+  pub behind : i ≤ length fours
+  pub left_is : left ≡ drop i fours
+
+module _ {text words : List ℕ} {fours left : List (List ℕ)} {count prev : ℕ} (l : Left text words fours left count prev) where
+  left_length : length left ≡ length fours - l.i
+  left_length = ap length l.left_is ∙ length-drop l.i fours
+
+  pub some_left : 1 ≤ length left → l.i < length fours
+  some_left h = omega (arith, left_length)
+
+  pub none_left : length left < 1 → length fours ≤ l.i
+  none_left h = omega (arith, left_length)
+
+  first_left : get_or left 0 [] ≡ get_or fours l.i []
+  first_left = ap (λ (ts : List (List ℕ)). get_or ts 0 []) l.left_is ∙ get_or-drop l.i fours 0 [] ∙ rw add-zero
 
 module _ (text words : List ℕ) (whole : whole_good text words ≡ true) where
+  -- a list has a last token
+  pub no_last : length words < 4 → ⊥
+  no_last h = omega (arith, (whole_says text words whole).some)
+
+  -- the others, by fours
+  module _ (others : List ℕ) (fours : List (List ℕ)) (front : others ≡ take (length words - 4) words) (by_fours : fours ≡ first_chunks 4 (length others / 4) others)
+      (many : length fours ≡ length others / 4) where
+    few_others : length others ≡ length words - 4
+    few_others = rw front (length-take (length words - 4) words ∙ omega arith)
+
+    one_less : length fours + 1 ≡ token_count words
+    one_less = omega (arith, many, few_others, whole_words text words whole, (whole_says text words whole).some)
+
+    pub not_last : (i : ℕ) → i < length fours → i + 1 < token_count words
+    not_last i h = omega (arith, one_less)
+
+    pub is_last : (i : ℕ) → i < token_count words → length fours ≤ i → i + 1 ≡ token_count words
+    is_last i k h = omega (arith, one_less)
+
+    word_is : (i j : ℕ) → i < length fours → j < 4 → get_or (get_or fours i []) j 0 ≡ get_or words (i * 4 + j) 0
+    word_is i j h k =
+        let early : i * 4 + j < length words - 4 = omega (arith, one_less, whole_words text words whole) in
+        ap (λ (ts : List (List ℕ)). get_or (get_or ts i []) j 0) by_fours
+        ∙ chunk_word (length others / 4) others i j (omega (arith, many)) k
+        ∙ ap (λ (ws : List ℕ). get_or ws (i * 4 + j) 0) front
+        ∙ get_or-take (length words - 4) words (i * 4 + j) 0 early
+
+    pub other_stands : (i : ℕ) → i < length fours → Stands words i (get_or fours i [])
+    other_stands i h =
+        record {
+          kind = word_is i 0 h (omega arith) ∙ rw add-zero;
+          start = word_is i 1 h (omega arith);
+          end = word_is i 2 h (omega arith);
+          extra = word_is i 3 h (omega arith);
+        }
+
+    -- the first of those that are left
+    pub left_stands : {left : List (List ℕ)} {count prev : ℕ} (l : Left text words fours left count prev) → 1 ≤ length left → Stands words l.i (get_or left 0 [])
+    left_stands l h = rw (first_left l) (other_stands l.i (some_left l h))
+
+  pub last_stands : (last : List ℕ) (i : ℕ) → last ≡ drop (length words - 4) words → i + 1 ≡ token_count words → Stands words i last
+  last_stands last i e end = record { kind = word 0 ∙ rw add-zero; start = word 1; end = word 2; extra = word 3 }
+    where
+      word : (j : ℕ) → get_or last j 0 ≡ get_or words (i * 4 + j) 0
+      word j =
+          let place : length words - 4 ≡ i * 4 = omega (arith, end, whole_words text words whole) in
+          rw (e, get_or-drop (length words - 4) words j 0, place)
+
   -- before the first token
   pub walk_start : Walked text words 1 0 0
   unfolding prev_end kept_of
   walk_start =
       record {
-        i = 0;
-        place = refl;
         inside = (whole_says text words whole).some;
         prev_is = refl;
         few = omega arith;
@@ -470,120 +545,121 @@ module _ (text words : List ℕ) (whole : whole_good text words ≡ true) where
       none : (j : ℕ) → j < 0 → ⊥
       none j h = omega arith
 
-  module _ {count prev at : ℕ} (w : Walked text words count prev at) where
-    -- what the token at which the walk stands is asked, as the last one or as another
-    abbrev Ask : Bool → Bool → Type 0
-    Ask last b = (ltb (get_or words at 0) kinds && eof_good last (get_or words at 0) && contents_good text (get_or words at 0) (get_or words (at + 1) 0) (get_or words (at + 2) 0) (get_or words (at + 3) 0)) ≡ b
+  -- all are left
+  pub left_start : (fours : List (List ℕ)) → Left text words fours fours 1 0
+  left_start fours = record { i = 0; walked = walk_start; behind = omega arith; left_is = refl }
 
-    -- the place tells whether it is the last one
-    not_last : at < length words - 4 → w.i + 1 < token_count words
-    not_last h = omega (arith, w.place, whole_words text words whole)
+  -- one less is left
+  pub left_next : {fours left : List (List ℕ)} {count prev count' prev' : ℕ} (l : Left text words fours left count prev) → 1 ≤ length left
+      → Walked text words count' prev' (l.i + 1)
+      → Left text words fours (take (length left - 1) (drop 1 left)) count' prev'
+  left_next {fours} {left} l h w =
+      record {
+        i = l.i + 1;
+        walked = w;
+        behind = omega (arith, some_left l h);
+        left_is = take_all (length left - 1) (drop 1 left) (omega (arith, length-drop 1 left)) ∙ ap (drop 1) l.left_is ∙ drop-drop 1 l.i fours;
+      }
 
-    is_last : length words - 4 ≤ at → w.i + 1 ≡ token_count words
-    is_last h = omega (arith, w.place, w.inside, whole_words text words whole)
+  module _ {count prev i : ℕ} (w : Walked text words count prev i) {four : List ℕ} (t : Stands words i four) where
+    -- what the token is asked, as the last one or as another
+    abbrev Ask : Bool → ℕ → ℕ → ℕ → ℕ → Bool → Type 0
+    Ask last kind start end extra b = (ltb kind kinds && eof_good last kind && contents_good text kind start end extra) ≡ b
 
     -- it starts before the one before it ends
-    pub starts_early : get_or words (at + 1) 0 < prev → 0 ≡ count_good text words
-    starts_early h =
-        let h' : start_of words w.i < prev = rw w.place h in
-        none_counted text words w.i w.inside (λ g. omega (arith, h', w.prev_is, (good_sound text words w.i g).0.behind))
+    pub starts_early : get_or four 1 0 < prev → None ≡ count_good text words
+    starts_early h = none_counted text words i w.inside (λ g. omega (arith, h, t.start, w.prev_is, (good_sound text words i g).0.behind))
 
     -- it ends before its start
-    pub ends_early : get_or words (at + 2) 0 < get_or words (at + 1) 0 → 0 ≡ count_good text words
-    ends_early h =
-        let h' : end_of words w.i < start_of words w.i = rw w.place h in
-        none_counted text words w.i w.inside (λ g. omega (arith, h', (good_sound text words w.i g).0.range))
+    pub ends_early : get_or four 2 0 < get_or four 1 0 → None ≡ count_good text words
+    ends_early h = none_counted text words i w.inside (λ g. omega (arith, h, t.start, t.end, (good_sound text words i g).0.range))
 
     -- it is not the last one, and its kind, text or extra is not as it should be
-    pub asked_wrong : at < length words - 4 → Ask false false → 0 ≡ count_good text words
+    pub asked_wrong : i + 1 < token_count words → Ask false (get_or four 0 0) (get_or four 1 0) (get_or four 2 0) (get_or four 3 0) false → None ≡ count_good text words
     asked_wrong b h =
-        none_counted text words w.i w.inside
+        none_counted text words i w.inside
         (λ g.
-        let yes : Ask false true = rw (ne_eqb (w.i + 1) (token_count words) (λ e. omega (arith, e, not_last b)), w.place) at (good_sound text words w.i g).0.asked in
-        true≢false (sym yes ∙ h))
+        let yes : Ask false (kind_of words i) (start_of words i) (end_of words i) (extra_of words i) true = rw (ne_eqb (i + 1) (token_count words) (λ e. omega (arith, e, b))) at (good_sound text words i g).0.asked in
+        true≢false (sym yes ∙ rw (t.kind, t.start, t.end, t.extra) at h))
 
     -- its range is not as it should be
-    pub range_wrong : range_good (length text) prev (get_or words (at + 1) 0) (get_or words (at + 2) 0) ≡ false → 0 ≡ count_good text words
+    pub range_wrong : range_good (length text) prev (get_or four 1 0) (get_or four 2 0) ≡ false → None ≡ count_good text words
     range_wrong h =
-        none_counted text words w.i w.inside
+        none_counted text words i w.inside
         (λ g.
-        let s = good_sound text words w.i g in
-        let yes = range_holds (length text) (prev_end words w.i) (start_of words w.i) (end_of words w.i) s.0.behind s.0.range s.1 in
-        true≢false (sym (rw (← w.prev_is, w.place) at yes) ∙ h))
+        let s = good_sound text words i g in
+        let yes = range_holds (length text) (prev_end words i) (start_of words i) (end_of words i) s.0.behind s.0.range s.1 in
+        true≢false (sym yes ∙ rw (t.start, t.end, w.prev_is) at h))
 
     -- it is the last one, and no Eof or one with an extra
-    pub last_wrong : length words - 4 ≤ at → (eqb (get_or words at 0) Eof && eqb (get_or words (at + 3) 0) 0) ≡ false → 0 ≡ count_good text words
+    pub last_wrong : i + 1 ≡ token_count words → (eqb (get_or four 0 0) Eof && eqb (get_or four 3 0) 0) ≡ false → None ≡ count_good text words
     last_wrong b h =
-        none_counted text words w.i w.inside
+        none_counted text words i w.inside
         (λ g.
-        let yes : Ask true true = rw (eq-eqb (w.i + 1) (token_count words) (is_last b), w.place) at (good_sound text words w.i g).0.asked in
-        true≢false (sym yes ∙ sym (asked_last text (get_or words at 0) (get_or words (at + 1) 0) (get_or words (at + 2) 0) (get_or words (at + 3) 0)) ∙ h))
+        let yes : Ask true (kind_of words i) (start_of words i) (end_of words i) (extra_of words i) true = rw (eq-eqb (i + 1) (token_count words) b) at (good_sound text words i g).0.asked in
+        true≢false (sym yes ∙ sym (asked_last text (kind_of words i) (start_of words i) (end_of words i) (extra_of words i)) ∙ rw (t.kind, t.extra) at h))
 
     -- it is not the last one, and sound: on to the next
-    pub walk_on : at < length words - 4 → prev ≤ get_or words (at + 1) 0 → get_or words (at + 1) 0 ≤ get_or words (at + 2) 0 → Ask false true → Walked text words (count + cond (dropped (get_or words at 0)) 0 1) (get_or words (at + 2) 0) (at + 4)
+    pub walk_on : i + 1 < token_count words → prev ≤ get_or four 1 0 → get_or four 1 0 ≤ get_or four 2 0
+        → Ask false (get_or four 0 0) (get_or four 1 0) (get_or four 2 0) (get_or four 3 0) true
+        → Walked text words (count + cond (dropped (get_or four 0 0)) 0 1) (get_or four 2 0) (i + 1)
     walk_on b from to asked =
-        let step = rw w.place at (kept_count words (token_count words) w.i w.inside) in
-        let end : end_of words w.i ≡ get_or words (at + 2) 0 = rw w.place in
-        let here : Sound text words false w.i = record { behind = rw (← w.prev_is, w.place) from; range = rw w.place to; asked = rw w.place asked } in
+        let step = kept_count words (token_count words) i w.inside in
+        let here : Sound text words false i = record { behind = rw (w.prev_is, t.start) at from; range = rw (t.start, t.end) at to; asked = rw (t.kind, t.start, t.end, t.extra) at asked } in
+        rw (t.kind, t.end)
         record {
-          i = w.i + 1;
-          place = omega (arith, w.place);
-          inside = not_last b;
-          prev_is = sym end ∙ prev_next words w.i;
-          few = omega (arith, w.few, one_most (dropped (get_or words at 0)));
+          inside = b;
+          prev_is = prev_next words i;
+          few = omega (arith, w.few, one_most (dropped (kind_of words i)));
           counts = omega (arith, w.counts, step);
-          each = λ j h. ⊎_elim (λ (same : j ≡ w.i). rw same here) (λ (earlier : j < w.i). w.each j earlier) (eq-or-lt_of_le (omega arith));
+          each = λ j h. ⊎_elim (λ (same : j ≡ i). rw same here) (λ (earlier : j < i). w.each j earlier) (eq-or-lt_of_le (omega arith));
         }
 
     -- it is the last one, sound, and ends in the text: all are good, since all end in the text
-    all_good : length words - 4 ≤ at → Sound text words true w.i → end_of words w.i ≤ length text → WellFormed text words
+    all_good : i + 1 ≡ token_count words → Sound text words true i → end_of words i ≤ length text → WellFormed text words
     all_good b here end =
-        record { whole = whole; each = λ j h. ⊎_elim (λ (same : j ≡ w.i). rw same last) (λ (earlier : j < w.i). before j earlier) (eq-or-lt_of_le (omega (arith, is_last b))) }
+        record { whole = whole; each = λ j h. ⊎_elim (λ (same : j ≡ i). rw same last) (λ (earlier : j < i). before j earlier) (eq-or-lt_of_le (omega (arith, b))) }
       where
-        before : (j : ℕ) → j < w.i → good text words j ≡ true
+        before : (j : ℕ) → j < i → good text words j ≡ true
         before j h =
             sound_good text words j
             (rw (ne_eqb (j + 1) (token_count words) (λ e. omega (arith, w.inside))) (w.each j h))
-            (omega (arith, ends_grow text words w.i w.each j h))
+            (omega (arith, ends_grow text words i w.each j h))
 
-        last : good text words w.i ≡ true
-        last = sound_good text words w.i (rw (eq-eqb (w.i + 1) (token_count words) (is_last b)) here) end
+        last : good text words i ≡ true
+        last = sound_good text words i (rw (eq-eqb (i + 1) (token_count words) b) here) end
 
     -- so that what is counted is the kept count
-    pub walk_end : length words - 4 ≤ at → range_good (length text) prev (get_or words (at + 1) 0) (get_or words (at + 2) 0) ≡ true → (eqb (get_or words at 0) Eof && eqb (get_or words (at + 3) 0) 0) ≡ true → count ≡ count_good text words
+    pub walk_end : i + 1 ≡ token_count words → range_good (length text) prev (get_or four 1 0) (get_or four 2 0) ≡ true
+        → (eqb (get_or four 0 0) Eof && eqb (get_or four 3 0) 0) ≡ true
+        → Some count ≡ count_good text words
     walk_end b range last =
-        let said = range_says (length text) prev (get_or words (at + 1) 0) (get_or words (at + 2) 0) range in
-        let asked = sym (asked_last text (get_or words at 0) (get_or words (at + 1) 0) (get_or words (at + 2) 0) (get_or words (at + 3) 0)) ∙ last in
-        let here : Sound text words true w.i = record { behind = rw (← w.prev_is, w.place) said.0; range = rw w.place said.1; asked = rw w.place asked } in
-        let all = all_good b here (rw w.place said.2) in
-        let one = rw (last_kept words (eof_last text words all) w.i (is_last b)) at (kept_count words (token_count words) w.i w.inside) in
-        let none = ap length (kept_none words (token_count words) (w.i + 1) (omega (arith, is_last b))) in
+        let said = range_says (length text) (prev_end words i) (start_of words i) (end_of words i) (rw (t.start, t.end, w.prev_is) at range) in
+        let asked = sym (asked_last text (kind_of words i) (start_of words i) (end_of words i) (extra_of words i)) ∙ (rw (t.kind, t.extra) at last) in
+        let here : Sound text words true i = record { behind = said.0; range = said.1; asked = asked } in
+        let all = all_good b here said.2 in
+        let one = rw (last_kept words (eof_last text words all) i b) at (kept_count words (token_count words) i w.inside) in
+        let none = ap length (kept_none words (token_count words) (i + 1) (omega (arith, b))) in
         let counted : count ≡ length (kept_of words) = omega (arith, one, none, w.counts) in
-        counted ∙ all_counted text words all
+        ap Some counted ∙ all_counted text words all
 
 -- ---- what the count says
 
--- a list good as a whole of which none is counted has a bad token
-pub none_says : (text words : List ℕ) {r : ℕ} → whole_good text words ≡ true → r ≡ count_good text words → r ≡ 0 → ltb (first_bad text words) (token_count words) ≡ true
-none_says text words whole e z =
-    ⊎_elim
-    (λ (b : first_bad text words < token_count words). lt-ltb _ _ b)
-    (λ (b : token_count words ≤ first_bad text words). absurd (clash (formed text words whole b)))
-    (lt_or_le (first_bad text words) (token_count words))
+-- a list that is not counted has a bad token
+pub none_says : (text words : List ℕ) → None ≡ count_good text words → ltb (first_bad text words) (token_count words) ≡ true
+none_says text words e = go (ltb (first_bad text words) (token_count words)) refl
   where
-    clash : WellFormed text words → ⊥
-    clash f =
-        let some = kept_not_empty text words f in
-        let none : 0 ≡ length (kept_of words) = sym z ∙ e ∙ sym (all_counted text words f) in
-        omega arith
+    go : (t : Bool) → ltb (first_bad text words) (token_count words) ≡ t → ltb (first_bad text words) (token_count words) ≡ true
+    go true b = b
+    go false b = absurd (none-some _ (rw b at e))
 
--- where some are counted, no token is bad, and the count is the kept count
-pub some_says : (text words : List ℕ) {r : ℕ} → r ≡ count_good text words → (r ≡ 0 → ⊥) → (ltb (first_bad text words) (token_count words) ≡ false) × (r ≡ length (kept_of words))
-some_says text words {r} e some = go (ltb (first_bad text words) (token_count words)) refl
+-- in one that is counted no token is bad, and the count is the kept count
+pub some_says : (text words : List ℕ) {n : ℕ} → Some n ≡ count_good text words → (ltb (first_bad text words) (token_count words) ≡ false) × (n ≡ length (kept_of words))
+some_says text words {n} e = go (ltb (first_bad text words) (token_count words)) refl
   where
-    go : (t : Bool) → ltb (first_bad text words) (token_count words) ≡ t → (ltb (first_bad text words) (token_count words) ≡ false) × (r ≡ length (kept_of words))
-    go true b = absurd (some (rw b at e))
-    go false b = (b, rw b at e)
+    go : (t : Bool) → ltb (first_bad text words) (token_count words) ≡ t → (ltb (first_bad text words) (token_count words) ≡ false) × (n ≡ length (kept_of words))
+    go true b = absurd (none-some _ (sym (rw b at e)))
+    go false b = (b, same_Some _ _ (rw b at e))
 
 -- ---- all numbers
 
@@ -596,6 +672,21 @@ numbers_turn t n i h = rw (left_step n i h, add-one)
 pub numbers_none : (t : List ℕ) (n i : ℕ) → n ≤ i → sets t i (numbers i (n - i)) ≡ t
 unfolding numbers
 numbers_none t n i h = rw (left_none n i h)
+
+numbers_length : (n i : ℕ) → length (numbers i n) ≡ n
+unfolding numbers
+numbers_length zero i = refl
+numbers_length (suc n) i = ap suc (numbers_length n (i + 1))
+
+-- written over the first n, with what lies behind those: written into the whole
+pub numbers_front : (t : List ℕ) (n : ℕ) → n ≤ length t → sets (take n t) 0 (numbers 0 n) ++ drop n t ≡ sets t 0 (numbers 0 n)
+numbers_front t n h =
+    let long = numbers_length n 0 in
+    let all : 0 + length (numbers 0 n) ≡ n = omega (arith, long) in
+    let front = length-take-le n t h in
+    let none : drop (0 + length (numbers 0 n)) (take n t) ≡ [] = drop_of_length-le (take n t) (omega (arith, long, front)) in
+    ap (λ (l : List ℕ). l ++ drop n t) (sets-eq (numbers 0 n) (take n t) 0 (omega (arith, long, front)) ∙ ap (λ (l : List ℕ). numbers 0 n ++ l) none ∙ append-nil (numbers 0 n))
+    ∙ sym (sets-eq (numbers 0 n) t 0 (omega (arith, long, h)) ∙ ap (λ (k : ℕ). numbers 0 n ++ drop k t) all)
 
 -- no more are kept than there are
 pub kept_few : (words : List ℕ) (left i : ℕ) → length (kept_from words left i) ≤ left

@@ -5,12 +5,11 @@ use mathlib.Core.Bool.{Bool, true, false, cond, not, ◌&&◌, ◌||◌, false�
 use mathlib.Core.List.{List, [], ◌∷◌}
 use mathlib.Core.Logic.{◌⊎◌, inl, inr, ⊎_elim}
 use native.Mathlib.Omega.{arith}
-use native.Mathlib.Numerals.{add-one}
-use native.Mathlib.Nat.{sub-zero, zero-sub, suc-sub-suc, le-div_iff_mul-le, div-lt_iff_lt-mul, eq-zero-or-pos, suc-mul}
+use native.Mathlib.Nat.{sub-zero, zero-sub, suc-sub-suc, le-div_iff_mul-le, eq-zero-or-pos, suc-mul}
 use borrow.Author.Tests.{not-true, not-false, ltb-true, ltb-false, lt-ltb, le-ltb, le-leb, lt-leb, eq-eqb, ne_eqb}
 use lib.Dec.{ltb}
-use lib.ListN.{length, get_or, take, drop, set, drop_of_length-le, length-drop}
-use lib.Seq.{take-nil, take_all, drop-cons, sets}
+use lib.ListN.{length, take, drop, drop_of_length-le, length-drop}
+use lib.Seq.{take-nil, take_all, sets}
 use Rattle.tokens.specs.Lent.{put}
 use Rattle.tokens.specs.Token.{part}
 use Rattle.tokens.specs.Place.{field_at}
@@ -77,11 +76,11 @@ drop_take (suc i) zero l = simp zero-sub
 drop_take (suc i) (suc j) [] = sym (take-nil (suc j - suc i))
 drop_take (suc i) (suc j) (x ∷ l) = simp suc-sub-suc (drop_take i j l)
 
--- a part whose ends are cut to the text's length is the part itself
-pub part_clamped : (text : List ℕ) (s e f u : ℕ) → f ≡ min s (length text) → u ≡ min e (length text) → take (u - f) (drop f text) ≡ part text s e
-part_clamped text s e f u hf hu = ⊎_elim inside past (lt_or_le s (length text))
+-- a part whose end is cut to the text's length, and its start to that end, is the part itself
+pub part_clamped : (text : List ℕ) (s e f u : ℕ) → u ≡ min e (length text) → f ≡ min s u → take (u - f) (drop f text) ≡ part text s e
+part_clamped text s e f u hu hf = ⊎_elim past inside (lt_or_le u s)
   where
-    inside : s < length text → take (u - f) (drop f text) ≡ part text s e
+    inside : s ≤ u → take (u - f) (drop f text) ≡ part text s e
     inside h =
         let f_is : f ≡ s = omega arith in
         rw f_is
@@ -90,14 +89,14 @@ part_clamped text s e f u hf hu = ⊎_elim inside past (lt_or_le s (length text)
         (λ (k : length text ≤ e). take_all (u - s) (drop s text) (rw length-drop (omega arith)) ∙ sym (take_all (e - s) (drop s text) (rw length-drop (omega arith))))
         (lt_or_le e (length text)))
 
-    past : length text ≤ s → take (u - f) (drop f text) ≡ part text s e
+    past : u < s → take (u - f) (drop f text) ≡ part text s e
     past h =
-        let f_is : length text ≤ f = omega arith in
-        rw (drop_of_length-le text f_is, drop_of_length-le text h, take-nil, take-nil)
-
--- a part whose end lies before its start is empty
-pub empty_part : (text : List ℕ) (s e f u : ℕ) → f ≡ min s (length text) → u ≡ min e (length text) → u < f → [] ≡ part text s e
-empty_part text s e f u hf hu h = let none : u - f ≡ 0 = omega arith in rw none at (part_clamped text s e f u hf hu)
+        let none : u - f ≡ 0 = omega arith in
+        rw none
+        (⊎_elim
+        (λ (k : e < s). let none-left : e - s ≡ 0 = omega arith in rw none-left)
+        (λ (k : s ≤ e). let behind : length text ≤ s = omega arith in rw (drop_of_length-le text behind, take-nil))
+        (lt_or_le e s))
 
 -- ---- tokens by place
 
@@ -108,25 +107,10 @@ field_inside j words kept p r e b =
     ⊎_elim (λ (h : p < length kept). omega arith) (λ (h : length kept ≤ p). let none : r ≡ 0 = simp (le-ltb _ _ h) at e in omega arith)
     (lt_or_le p (length kept))
 
--- ---- runs of stores
-
--- one store more of a run
-pub sets_more : (t ws : List ℕ) (at i : ℕ) → i < length ws → sets (set t (at + i) (get_or ws i 0)) (at + (i + 1)) (drop (i + 1) ws) ≡ sets t (at + i) (drop i ws)
-sets_more t ws at i h =
-    let next : at + (i + 1) ≡ suc (at + i) = omega arith in
-    rw (next, add-one i, drop-cons ws i 0 h)
-
--- the run is done
-pub sets_done : (t ws : List ℕ) (at i : ℕ) → length ws ≤ i → sets t at (drop i ws) ≡ t
-sets_done t ws at i h = rw (drop_of_length-le ws h)
-
 -- ---- where a record begins
 
 pub start_inside : (len n w : ℕ) → 0 < w → n ≤ len / w → n * w ≤ len
 start_inside len n w p h = (le-div_iff_mul-le p).0 h
-
-pub start_past : (len n w : ℕ) → 0 < w → len / w < n → len < n * w
-start_past len n w p h = (div-lt_iff_lt-mul p).0 h
 
 pub pos_of_ne : {n : ℕ} → (n ≡ 0 → ⊥) → 0 < n
 pos_of_ne {n} h = ⊎_elim (λ (e : n ≡ 0). absurd (h e)) (λ (p : 0 < n). p) (eq-zero-or-pos n)

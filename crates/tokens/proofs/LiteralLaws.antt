@@ -4,7 +4,7 @@
 use Prim.Native.Char.{code}
 use Prim.Native.Nat.{ℕ, zero, suc, ◌+◌, ◌-◌, ◌*◌, ◌/◌, ◌%◌, ◌^◌, ◌≤◌, ◌<◌, min, max}
 use mathlib.Core.Path.{◌≡◌, refl, sym, ap, ◌∙◌}
-use mathlib.Core.Bool.{Bool, true, false, cond, not, ◌&&◌, ◌||◌, and-true, and-false, and-eq-true_iff, false≢true}
+use mathlib.Core.Bool.{Bool, true, false, cond, not, ◌&&◌, ◌||◌, and-true, and-false, and_assoc, and-eq-true_iff, false≢true}
 use mathlib.Core.List.{List, [], ◌∷◌, ◌++◌, map}
 use mathlib.Core.Logic.{⊎_elim, ◌↔◌}
 use native.Mathlib.Nat.{add-zero, zero-add, sub_self, add-mul}
@@ -19,6 +19,7 @@ use lib.Pow.{pow-add, pow_mono}
 use lib.Count.{count_leading_zeros, leading_top}
 use lib.ListN.{length, take, drop, get_or, length-take, length-drop, take-append-drop, drop_of_length-le}
 use lib.Seq.{take_all, drop-cons, drop-drop, drop-nil}
+use Rattle.std.specs.List.{fold, list_all}
 use Rattle.tokens.proofs.Laws.{drop_take}
 use Rattle.tokens.specs.Byte.{bytes, same, is_hex, digit, all_hex, value_after, between, from_to}
 use Rattle.tokens.specs.Literal.{is_literal, literal_value, bytes_from, significant}
@@ -155,17 +156,22 @@ from_leading q p h =
     let exact = significant_is q n (omega (arith, top.1)) low high in
     omega (arith, top.1)
 
+-- as `div_ceil` tells it
+pub from_leading_up : (q : ℕ) → (q ≡ 0 → ⊥) → q < 2 ^ 64 → (64 - count_leading_zeros 64 q) / 8 + min 1 ((64 - count_leading_zeros 64 q) % 8) ≡ significant q
+from_leading_up q p h = omega (arith, from_leading q p h)
+
 -- ---- a text, byte for byte
 
--- a byte more is seen
-pub hex_seen : (l : List ℕ) (i : ℕ) (seen : Bool) → i < length l → ((seen && is_hex (get_or l i 0)) && all_hex (drop (i + 1) l)) ≡ (seen && all_hex (drop i l))
+-- what the bytes seen so far and those to come decide together
+hex_fold : (seen : Bool) (l : List ℕ) → fold (λ all c. all && is_hex c) seen l ≡ (seen && all_hex l)
 unfolding all_hex
-hex_seen l i true h = rw (add-one, drop-cons l i 0 h)
-hex_seen l i false h = refl
+hex_fold true [] = refl
+hex_fold false [] = refl
+hex_fold true (c ∷ l) = hex_fold (is_hex c) l
+hex_fold false (c ∷ l) = hex_fold false l
 
-pub hex_end : (l : List ℕ) (i : ℕ) → length l ≤ i → all_hex (drop i l) ≡ true
-unfolding all_hex
-hex_end l i h = rw (drop_of_length-le l h)
+pub hex_all : (l : List ℕ) → fold (λ all c. all && is_hex c) true l ≡ all_hex l
+hex_all l = hex_fold true l
 
 -- the rest of a text, as the code takes it
 pub rest_is : (l : List ℕ) (a : ℕ) → take (length l - a) (drop a l) ≡ drop a l
@@ -178,27 +184,42 @@ starts [] h = absurd (not-suc-le-zero h)
 starts (a ∷ []) h = absurd (not-suc-le-zero (le_of_suc-le-suc h))
 starts (a ∷ b ∷ l) h = simp and-true
 
-pub not_short : (l : List ℕ) → length l < 3 → is_literal l ≡ false
+-- the digits behind it, as the code takes them
+abbrev pub behind_0x : List ℕ → List ℕ
+behind_0x l = take (length l - 2) (drop 2 l)
+
+digits_are : (l : List ℕ) → length (behind_0x l) ≡ length l - 2
+digits_are l = ap length (rest_is l 2) ∙ length-drop 2 l
+
+not_short : (l : List ℕ) → length l < 3 → is_literal l ≡ false
 unfolding is_literal
 not_short l h = simp (under 3 66 (length l) h, and-false)
 
-pub not_long : (l : List ℕ) → 66 < length l → is_literal l ≡ false
-unfolding is_literal
-not_long l h = simp (over 3 66 (length l) h, and-false)
+pub not_two : (l : List ℕ) → length l < 2 → is_literal l ≡ false
+not_two l h = not_short l (omega arith)
 
--- a text that is long enough, by its first bytes
-module _ (l : List ℕ) (long : 3 ≤ length l) where
+-- a text that has two bytes, by them and by its digits
+module _ (l : List ℕ) (two : 2 ≤ length l) where
   pub not_zero : (get_or l 0 0 ≡ 48 → ⊥) → is_literal l ≡ false
   unfolding is_literal
-  not_zero h = simp (starts l (omega arith), ne_eqb (get_or l 0 0) 48 h)
+  not_zero h = simp (starts l two, ne_eqb (get_or l 0 0) 48 h)
 
   pub not_x : (get_or l 1 0 ≡ 120 → ⊥) → is_literal l ≡ false
   unfolding is_literal
-  not_x h = simp (starts l (omega arith), ne_eqb (get_or l 1 0) 120 h, and-false)
+  not_x h = simp (starts l two, ne_eqb (get_or l 1 0) 120 h, and-false)
 
-  pub by_digits : length l ≤ 66 → get_or l 0 0 ≡ 48 → get_or l 1 0 ≡ 120 → is_literal l ≡ all_hex (drop 2 l)
+  pub no_digit : length (behind_0x l) < 1 → is_literal l ≡ false
+  no_digit h = not_short l (omega (arith, digits_are l))
+
+  pub many_digits : 64 < length (behind_0x l) → is_literal l ≡ false
   unfolding is_literal
-  by_digits h p q = simp (starts l (omega arith), eq-eqb (get_or l 0 0) 48 p, eq-eqb (get_or l 1 0) 120 q, inside 3 66 (length l) long h)
+  many_digits h = simp (over 3 66 (length l) (omega (arith, digits_are l)), and-false)
+
+  pub by_digits : 1 ≤ length (behind_0x l) → length (behind_0x l) ≤ 64 → get_or l 0 0 ≡ 48 → get_or l 1 0 ≡ 120 → is_literal l ≡ all_hex (behind_0x l)
+  unfolding is_literal
+  by_digits some few p q =
+      rw (rest_is l 2)
+      (simp (starts l two, eq-eqb (get_or l 0 0) 48 p, eq-eqb (get_or l 1 0) 120 q, inside 3 66 (length l) (omega (arith, digits_are l)) (omega (arith, digits_are l))))
 
 -- ---- digits and the number that they write
 
@@ -356,14 +377,37 @@ mod_bytes : (v j k : ℕ) → v % 256 ^ (j + k) ≡ (v / 256 ^ k % 256 ^ j) * 25
 mod_bytes v j k = rw (pow-add 256 j k) (mod-mul v (pos j) (pos k))
 
 -- a quarter that is not zero has the highest significant byte, and every byte behind it is significant
-pub quarter_some : (v k q : ℕ) → k ≤ 24 → q ≡ v / 256 ^ k % 256 ^ 8 → (q ≡ 0 → ⊥) → significant q + k ≡ significant (v % 256 ^ (8 + k))
+quarter_some : (v k q : ℕ) → k ≤ 24 → q ≡ v / 256 ^ k % 256 ^ 8 → (q ≡ 0 → ⊥) → significant q + k ≡ significant (v % 256 ^ (8 + k))
 quarter_some v k q h e p =
     let below : q < 256 ^ 8 = rw e (mod-lt (v / 256 ^ k) (pos 8)) in
     sym (rw (mod_bytes v 8 k, ← e) (significant_more q k (v % 256 ^ k) (omega arith) below h (mod-lt v (pos k))))
 
 -- a quarter of zero counts for nothing
-pub quarter_none : (v k q : ℕ) → q ≡ v / 256 ^ k % 256 ^ 8 → q ≡ 0 → v % 256 ^ (8 + k) ≡ v % 256 ^ k
+quarter_none : (v k q : ℕ) → q ≡ v / 256 ^ k % 256 ^ 8 → q ≡ 0 → v % 256 ^ (8 + k) ≡ v % 256 ^ k
 quarter_none v k q e z = rw (mod_bytes v 8 k, ← e, z, zero-mul, zero-add)
+
+-- two digits are a byte
+square_power : (n : ℕ) → 16 ^ (2 * n) ≡ 256 ^ n
+square_power zero = refl
+square_power (suc n) = rw (mul-suc 2 n, pow-add 16 (2 * n) 2, square_power n, pow-suc 256 n)
+
+-- the quarters above number i are zero
+abbrev pub NoneAbove : ℕ → ℕ → Type 0
+NoneAbove v i = v % 2 ^ 256 ≡ v % 256 ^ (8 * i)
+
+module _ (v i q : ℕ) (some : 1 ≤ i) (above : NoneAbove v i) (is : q ≡ v / 16 ^ (16 * (i - 1)) % 2 ^ 64) where
+  in_bytes : q ≡ v / 256 ^ (8 * (i - 1)) % 256 ^ 8
+  in_bytes = let two : 16 * (i - 1) ≡ 2 * (8 * (i - 1)) = omega arith in rw (two, square_power (8 * (i - 1))) at is
+
+  next : 8 + 8 * (i - 1) ≡ 8 * i
+  next = omega arith
+
+  -- the first that is not zero, from the highest
+  pub quarter_found : i ≤ 4 → (q ≡ 0 → ⊥) → significant q + 8 * (i - 1) ≡ significant (v % 2 ^ 256)
+  quarter_found few p = rw next at (quarter_some v (8 * (i - 1)) q (omega arith) in_bytes p) ∙ ap significant (sym above)
+
+  pub quarter_passed : q ≡ 0 → NoneAbove v (i - 1)
+  quarter_passed z = above ∙ rw next at (quarter_none v (8 * (i - 1)) q in_bytes z)
 
 -- zero exactly if a quarter and all behind it are
 quarter_zero : (v k : ℕ) → eqb (v % 256 ^ (8 + k)) 0 ≡ (eqb (v % 256 ^ k) 0 && eqb (v / 256 ^ k % 256 ^ 8) 0)
@@ -378,9 +422,13 @@ quarter_zero v k = rw (mod_bytes v 8 k) (go (v / 256 ^ k % 256 ^ 8) (256 ^ k) (v
     go q b (suc r) p = ne_eqb (q * b + suc r) 0 (λ z. omega arith) ∙ rw (ne_eqb (suc r) 0 (λ z. omega arith))
 
 -- so, if all four are
-pub quarters_zero : (v : ℕ)
-    → eqb (v % 256 ^ 32) 0 ≡ (eqb (v / 256 ^ 0 % 256 ^ 8) 0 && eqb (v / 256 ^ 8 % 256 ^ 8) 0 && eqb (v / 256 ^ 16 % 256 ^ 8) 0 && eqb (v / 256 ^ 24 % 256 ^ 8) 0)
-quarters_zero v = quarter_zero v 24 ∙ rw (quarter_zero v 16, quarter_zero v 8, div-one)
+pub quarters_zero : (v : ℕ) → list_all (λ i. eqb (v / 16 ^ (16 * i) % 2 ^ 64) 0) (0 ∷ 1 ∷ 2 ∷ 3 ∷ []) ≡ eqb (v % 2 ^ 256) 0
+quarters_zero v =
+    four (eqb (v / 256 ^ 0 % 256 ^ 8) 0) (eqb (v / 256 ^ 8 % 256 ^ 8) 0) (eqb (v / 256 ^ 16 % 256 ^ 8) 0) (eqb (v / 256 ^ 24 % 256 ^ 8) 0)
+    ∙ sym (quarter_zero v 24 ∙ rw (quarter_zero v 16, quarter_zero v 8, div-one))
+  where
+    four : (a b c d : Bool) → (a && (b && (c && (d && true)))) ≡ (a && b && c && d)
+    four a b c d = rw (and-true, and_assoc, and_assoc)
 
 -- ---- literals
 
@@ -395,6 +443,10 @@ literal_length text e =
 pub value_uncut : (text : List ℕ) → length text ≤ 66 → literal_value text ≡ value_after 0 (drop 2 text)
 unfolding literal_value
 value_uncut text short = mod-eq_of_lt (value_small (drop 2 text) 64 (simp length-drop (omega arith)))
+
+-- the digits of a short text, as the code takes them
+pub short_value : (text : List ℕ) → length text ≤ 18 → value_after 0 (behind_0x text) ≡ literal_value text
+short_value text short = ap (value_after 0) (rest_is text 2) ∙ sym (value_uncut text (omega arith))
 
 pub literal_value_whole : (text : List ℕ) → is_literal text ≡ true → literal_value text ≡ value_after 0 (drop 2 text)
 literal_value_whole text e = value_uncut text (literal_length text e)
@@ -430,10 +482,6 @@ unfolding fits
 nothing_fits byte text e = rw e (lt-leb (significant (literal_value text)) 0 (significant_between (literal_value text)).0)
 
 -- two digits for each byte that a push takes always fit
-square_power : (n : ℕ) → 16 ^ (2 * n) ≡ 256 ^ n
-square_power zero = refl
-square_power (suc n) = rw (mul-suc 2 n, pow-add 16 (2 * n) 2, square_power n, pow-suc 256 n)
-
 pub few_digits_fit : (byte : ℕ) (text : List ℕ) → 1 ≤ push_size byte → length text ≤ 2 * push_size byte + 2 → fits byte text ≡ true
 unfolding fits literal_value
 few_digits_fit byte text some few =

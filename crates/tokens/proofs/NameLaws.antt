@@ -1,80 +1,51 @@
 -- Laws of names: equality byte for byte, decimal numbers, and the list of type names. Assumes nothing.
-use Prim.Native.Nat.{ℕ, zero, suc, ◌+◌, ◌-◌, ◌*◌, ◌/◌, ◌%◌, ◌≤◌, ◌<◌}
+use Prim.Native.Nat.{ℕ, zero, suc, ◌*◌, ◌/◌, ◌%◌, ◌≤◌, ◌<◌}
 use mathlib.Core.Path.{◌≡◌, refl, sym, ap, subst, ◌∙◌}
-use mathlib.Core.Bool.{Bool, true, false, cond, ◌&&◌, and-eq-true_iff, and_assoc, false≢true}
+use mathlib.Core.Bool.{Bool, true, false, cond, not}
 use mathlib.Core.List.{List, [], ◌∷◌, ◌++◌}
-use mathlib.Core.Logic.{◌↔◌, ⊎_elim}
+use mathlib.Core.Logic.{◌↔◌, ◌≢◌, ⊎_elim}
 use native.Mathlib.Omega.{arith}
-use native.Mathlib.Nat.{eq-zero-or-pos, sub-zero, mul-pos, mul-le-mul_right, div-mul-le_self, div-add-mod', le-div_iff_mul-le, mul-mod_left}
-use native.Mathlib.Numerals.{add-one}
-use borrow.Author.Tests.{lt-ltb, le-ltb, leb-true, le-leb, eqb-true, eq-eqb, ne_eqb}
-use lib.Dec.{leb, eqb}
-use lib.ListN.{length, get_or, take, drop, length-append, length-drop, drop_of_length-le}
-use lib.Seq.{drop-cons, take_all}
+use native.Mathlib.Nat.{mul-pos, mul-le-mul_right, div-mul-le_self, div-add-mod', le-div_iff_mul-le, mul-mod_left}
+use borrow.Author.Tests.{lt-ltb, le-ltb}
+use lib.Dec.{eqb}
+use lib.ListN.{length, get_or}
+use Rattle.std.specs.Prelude.{Option, Some, None, MatchOption, option_map, unwrap_or, is_some}
+use Rattle.std.specs.Cmp.Lexicographic.{pointwise}
+use Rattle.std.proofs.lemmas.List.{append_cancel_left}
+use Rattle.std.proofs.lemmas.Slice.Eq.{bytes_eq-Decides}
 use Rattle.tokens.proofs.Laws.{lt_or_le}
 use Rattle.tokens.specs.Byte.{bytes, same, numeral}
-use Rattle.tokens.specs.Number.{type_none, type_uint, type_int, type_bytes_n, widest_bits, bits_step, widest_bytes}
-use Rattle.tokens.specs.Name.{ListedType, decimal, multiples, sized, bare_types, uint_types, int_types, bytes_types, type_names, look_up, type_of}
-
--- ---- tests
-
--- two tests that pass together are one
-both : (a b : Bool) → (a ≡ true → b ≡ true) → (b ≡ true → a ≡ true) → a ≡ b
-both true b f g = sym (f refl)
-both false true f g = g refl
-both false false f g = refl
-
-never : (t : Bool) → (t ≡ true → ⊥) → t ≡ false
-never true h = absurd (h refl)
-never false h = refl
+use Rattle.tokens.specs.Number.{InvalidTypeAsArgumentName, type_none, type_uint, type_int, type_bytes_n, widest_bits, bits_step, widest_bytes}
+use Rattle.tokens.specs.Name.{ListedType, decimal, multiples, sized, bare_types, uint_types, int_types, bytes_types, type_names, look_up, type_of, type_numbers}
+use Rattle.tokens.specs.declared.name.NameType.{NameType}
+use Rattle.tokens.specs.declared.name.NameType.TheVariants as types
+use Rattle.tokens.specs.declared.refusal.Wrong.{Wrong}
+use Rattle.tokens.specs.declared.refusal.Wrong.TheVariants as wrong
+use Rattle.tokens.specs.Refusal.{wrong_number}
 
 -- ---- equality byte for byte
 
-same_sound : (a b : List ℕ) → same a b ≡ true → a ≡ b
+-- it is the library's
+pub same_is : (a b : List ℕ) → pointwise eqb a b ≡ same a b
 unfolding same
-same_sound [] [] e = refl
-same_sound [] (b ∷ bs) e = absurd (false≢true e)
-same_sound (a ∷ ps) [] e = absurd (false≢true e)
-same_sound (a ∷ ps) (b ∷ bs) e = let h = (and-eq-true_iff (eqb a b) (same ps bs)).0 e in cc (eqb-true a b h.0, same_sound ps bs h.1)
-
-same_refl : (a : List ℕ) → same a a ≡ true
-unfolding same
-same_refl [] = refl
-same_refl (a ∷ ps) = rw (eq-eqb a a refl) (same_refl ps)
+same_is [] [] = refl
+same_is [] (b ∷ bs) = refl
+same_is (a ∷ ps) [] = refl
+same_is (a ∷ ps) (b ∷ bs) = rw (same_is ps bs)
 
 -- equality of names is equality of byte lists
 pub same_equal : (a b : List ℕ) → (same a b ≡ true) ↔ (a ≡ b)
-same_equal a b = (same_sound a b, λ e. subst (λ (x : List ℕ). same a x ≡ true) e (same_refl a))
+same_equal a b = (λ e. (bytes_eq-Decides a b).0 (same_is a b ∙ e), λ e. sym (same_is a b) ∙ (bytes_eq-Decides a b).1 e)
+
+differ : (a b : List ℕ) → a ≢ b → same a b ≡ false
+differ a b h = go (same a b) (same_equal a b).0
+  where
+    go : (t : Bool) → (t ≡ true → a ≡ b) → t ≡ false
+    go true f = absurd (h (f refl))
+    go false f = refl
 
 pub same_lengths : (a b : List ℕ) → (length a ≡ length b → ⊥) → same a b ≡ false
-same_lengths a b h = never (same a b) (λ e. h (ap length (same_sound a b e)))
-
--- equal, and a number not below a bound
-same_and : (xs ys : List ℕ) (b m : ℕ) (t : Bool) → (xs ≡ ys → b ≤ m → t ≡ true) → (t ≡ true → (xs ≡ ys) × (b ≤ m)) → (same xs ys && leb b m) ≡ t
-same_and xs ys b m t f g =
-    both (same xs ys && leb b m) t
-    (λ e. let p = (and-eq-true_iff (same xs ys) (leb b m)).0 e in f (same_sound xs ys p.0) (leb-true b m p.1))
-    (λ e. let p = g e in rw ((same_equal xs ys).1 p.0, le-leb b m p.1))
-
--- one byte on
-pub same_step : (a b : List ℕ) (i : ℕ) → i < length a → i < length b → get_or a i 0 ≡ get_or b i 0 → same (drop (i + 1) a) (drop (i + 1) b) ≡ same (drop i a) (drop i b)
-unfolding same
-same_step a b i p q e = rw (add-one i, drop-cons a i 0 p, drop-cons b i 0 q, eq-eqb (get_or a i 0) (get_or b i 0) e)
-
-pub same_differ : (a b : List ℕ) (i : ℕ) → i < length a → i < length b → (get_or a i 0 ≡ get_or b i 0 → ⊥) → same (drop i a) (drop i b) ≡ false
-unfolding same
-same_differ a b i p q h = rw (drop-cons a i 0 p, drop-cons b i 0 q, ne_eqb (get_or a i 0) (get_or b i 0) h)
-
-pub same_end : (a b : List ℕ) (i : ℕ) → length a ≤ i → length b ≤ i → same (drop i a) (drop i b) ≡ true
-unfolding same
-same_end a b i p q = rw (drop_of_length-le a p, drop_of_length-le b q)
-
--- a name that begins otherwise, or goes on otherwise, is another
-same_split : (p d name : List ℕ) → same (p ++ d) name ≡ (same p (take (length p) name) && same d (drop (length p) name))
-unfolding same
-same_split [] d name = refl
-same_split (a ∷ p) d [] = refl
-same_split (a ∷ p) d (b ∷ name) = rw (same_split p d name, and_assoc)
+same_lengths a b h = differ a b (λ e. h (ap length e))
 
 -- ---- decimal numbers
 
@@ -95,33 +66,6 @@ least [] = 0
 least (o ∷ []) = 1
 least (t ∷ o ∷ []) = 10
 least (h ∷ t ∷ o ∷ rest) = 100
-
-pub eqb_agree : (a b c d : ℕ) → (a ≡ b → c ≡ d) → (c ≡ d → a ≡ b) → eqb a b ≡ eqb c d
-eqb_agree a b c d f g = both (eqb a b) (eqb c d) (λ e. eq-eqb c d (f (eqb-true a b e))) (λ e. eq-eqb a b (g (eqb-true c d e)))
-
--- the byte x writes the digit d, or none if d is no digit
-abbrev pub Writes : ℕ → ℕ → Type 0
-Writes x d = (k : ℕ) → k < 10 → eqb (numeral k) x ≡ eqb k d
-
-module _ (x d : ℕ) (writes : Writes x d) (k : ℕ) (small : k < 10) where
-  read : numeral k ≡ x → k ≡ d
-  read e = eqb-true k d (sym (writes k small) ∙ eq-eqb (numeral k) x e)
-
-  write : k ≡ d → numeral k ≡ x
-  write e = eqb-true (numeral k) x (writes k small ∙ eq-eqb k d e)
-
--- three bytes write m, which is at least a bound, exactly if m is r
-pub number_is :
-    (h t o a b c bound m r : ℕ) → Writes h a → Writes t b → Writes o c → m < 1000
-    → (m / 100 ≡ a → m / 10 % 10 ≡ b → m % 10 ≡ c → bound ≤ m → m ≡ r)
-    → (m ≡ r → (m / 100 ≡ a) × (m / 10 % 10 ≡ b) × (m % 10 ≡ c) × (bound ≤ m))
-    → (same (digits m) (h ∷ t ∷ o ∷ []) && leb bound m) ≡ eqb m r
-number_is h t o a b c bound m r wh wt wo q f g =
-    same_and (digits m) (h ∷ t ∷ o ∷ []) bound m (eqb m r)
-    (λ e k. eq-eqb m r (f (read h a wh (m / 100) (omega arith) (cc)) (read t b wt (m / 10 % 10) (omega arith) (cc)) (read o c wo (m % 10) (omega arith) (cc)) k))
-    (λ e.
-    let x = g (eqb-true m r e) in
-    (cc (write h a wh (m / 100) (omega arith) x.0, write t b wt (m / 10 % 10) (omega arith) x.1, write o c wo (m % 10) (omega arith) x.2), x.3))
 
 -- how a decimal number lies to its three digits: they are its own with zeros in front, and it has no zero in front itself
 record Padded (m : ℕ) (part : List ℕ) : Type 0 where
@@ -178,36 +122,40 @@ padded_decimal m (h ∷ t ∷ o ∷ []) q d =
     rw (le-ltb m 10 k, le-ltb m 100 g) d.same_digits
 padded_decimal m (h ∷ t ∷ o ∷ x ∷ rest) q d = absurd (omega (arith, d.at_most_three))
 
--- the part writes r in decimal, or no number from 1 to 999 if r is none
-abbrev pub Decimal : List ℕ → ℕ → Type 0
-Decimal part r = (m : ℕ) → 0 < m → m < 1000 → same (decimal m) part ≡ eqb m r
+-- three bytes write the number r, at least a bound, or no number
+abbrev pub Number : List ℕ → ℕ → Option ℕ → Type 0
+Number three bound r = MatchOption r ((m : ℕ) → m < 1000 → bound ≤ m → digits m ≢ three) (λ m. (m < 1000) × (bound ≤ m) × (digits m ≡ three))
 
--- three bytes write r, at least a bound
-abbrev pub Number : List ℕ → ℕ → ℕ → Type 0
-Number three bound r = (m : ℕ) → 0 < m → m < 1000 → (same (digits m) three && leb bound m) ≡ eqb m r
+-- the part writes the number r from 1 to 999 in decimal, or none
+abbrev pub Decimal : List ℕ → Option ℕ → Type 0
+Decimal part r = MatchOption r ((m : ℕ) → 0 < m → m < 1000 → decimal m ≢ part) (λ m. (0 < m) × (m < 1000) × (decimal m ≡ part))
 
-decimal_reads : (part : List ℕ) (r : ℕ) → 0 < length part → length part ≤ 3 → Number (pad part) (least part) r → Decimal part r
-decimal_reads part r u v number m p q =
-    sym
-    (same_and (digits m) (pad part) (least part) m (same (decimal m) part)
-    (λ e k. (same_equal (decimal m) part).1 (padded_decimal m part q record { same_digits = e; no_zero = k; some_digit = u; at_most_three = v }))
-    (λ e. let d = subst (Padded m) (same_sound (decimal m) part e) (decimal_padded m p q) in (d.same_digits, d.no_zero)))
-    ∙ number m p q
+some_digits : (part : List ℕ) → 0 < length part → 0 < least part
+unfolding least
+some_digits [] h = absurd (omega arith)
+some_digits (o ∷ []) h = omega arith
+some_digits (t ∷ o ∷ []) h = omega arith
+some_digits (h ∷ t ∷ o ∷ rest) k = omega arith
 
-pub reads_one : (part : List ℕ) (r : ℕ) → length part ≡ 1 → Number (numeral 0 ∷ numeral 0 ∷ get_or part 0 0 ∷ []) 1 r → Decimal part r
+decimal_reads : (part : List ℕ) (r : Option ℕ) → 0 < length part → length part ≤ 3 → Number (pad part) (least part) r → Decimal part r
+decimal_reads part None u v none = λ m p q e. let d = subst (Padded m) e (decimal_padded m p q) in none m q d.no_zero d.same_digits
+decimal_reads part (Some m) u v n =
+    (omega (arith, n.1, some_digits part u), n.0, padded_decimal m part n.0 record { same_digits = n.2; no_zero = n.1; some_digit = u; at_most_three = v })
+
+pub reads_one : (part : List ℕ) (r : Option ℕ) → length part ≡ 1 → Number (numeral 0 ∷ numeral 0 ∷ get_or part 0 0 ∷ []) 1 r → Decimal part r
 unfolding pad least
 reads_one [] r e n = absurd (omega arith)
 reads_one (o ∷ []) r e n = decimal_reads (o ∷ []) r (omega arith) (omega arith) n
 reads_one (o ∷ x ∷ rest) r e n = absurd (omega arith)
 
-pub reads_two : (part : List ℕ) (r : ℕ) → length part ≡ 2 → Number (numeral 0 ∷ get_or part 0 0 ∷ get_or part 1 0 ∷ []) 10 r → Decimal part r
+pub reads_two : (part : List ℕ) (r : Option ℕ) → length part ≡ 2 → Number (numeral 0 ∷ get_or part 0 0 ∷ get_or part 1 0 ∷ []) 10 r → Decimal part r
 unfolding pad least
 reads_two [] r e n = absurd (omega arith)
 reads_two (o ∷ []) r e n = absurd (omega arith)
 reads_two (t ∷ o ∷ []) r e n = decimal_reads (t ∷ o ∷ []) r (omega arith) (omega arith) n
 reads_two (t ∷ o ∷ x ∷ rest) r e n = absurd (omega arith)
 
-pub reads_three : (part : List ℕ) (r : ℕ) → length part ≡ 3 → Number (get_or part 0 0 ∷ get_or part 1 0 ∷ get_or part 2 0 ∷ []) 100 r → Decimal part r
+pub reads_three : (part : List ℕ) (r : Option ℕ) → length part ≡ 3 → Number (get_or part 0 0 ∷ get_or part 1 0 ∷ get_or part 2 0 ∷ []) 100 r → Decimal part r
 unfolding pad least
 reads_three [] r e n = absurd (omega arith)
 reads_three (o ∷ []) r e n = absurd (omega arith)
@@ -215,80 +163,79 @@ reads_three (t ∷ o ∷ []) r e n = absurd (omega arith)
 reads_three (h ∷ t ∷ o ∷ []) r e n = decimal_reads (h ∷ t ∷ o ∷ []) r (omega arith) (omega arith) n
 reads_three (h ∷ t ∷ o ∷ x ∷ rest) r e n = absurd (omega arith)
 
-pub reads_none : (part : List ℕ) → (length part ≡ 1 → ⊥) → (length part ≡ 2 → ⊥) → (length part ≡ 3 → ⊥) → Decimal part 0
-reads_none part a b c m p q =
-    let d = decimal_padded m p q in
-    rw (same_lengths (decimal m) part (λ e. omega arith), ne_eqb m 0 (omega arith))
+pub reads_none : (part : List ℕ) → (0 < length part → length part ≤ 3 → ⊥) → Decimal part None
+reads_none part h m p q e = let d = subst (Padded m) e (decimal_padded m p q) in h d.some_digit d.at_most_three
 
--- ---- a size behind a prefix
-
--- the name is the prefix and r in decimal, or has no number from 1 to 999 there if r is none
-abbrev pub Behind : List ℕ → List ℕ → ℕ → Type 0
-Behind prefix name r = (m : ℕ) → 0 < m → m < 1000 → same (prefix ++ decimal m) name ≡ eqb m r
-
-pub behind_short : (prefix name : List ℕ) → length name < length prefix → Behind prefix name 0
-behind_short prefix name h m p q =
-    rw (same_lengths (prefix ++ decimal m) name (λ e. omega (arith, length-append prefix (decimal m))), ne_eqb m 0 (omega arith))
-
--- the slices of the code: `name[0..n]` and `name[n..]`, where n is the prefix's length
-pub behind_other : (prefix name : List ℕ) → same prefix (take (length prefix - 0) name) ≡ false → Behind prefix name 0
-behind_other prefix name e m p q = rw (same_split prefix (decimal m) name, rw sub-zero at e, ne_eqb m 0 (omega arith))
-
-pub behind_read :
-    (prefix name : List ℕ) (r : ℕ) → same prefix (take (length prefix - 0) name) ≡ true
-    → Decimal (take (length name - length prefix) (drop (length prefix) name)) r → Behind prefix name r
-behind_read prefix name r e d m p q =
-    let rest = take_all (length name - length prefix) (drop (length prefix) name) (rw length-drop (omega arith)) in
-    rw (same_split prefix (decimal m) name, rw sub-zero at e) (rw rest at (d m p q))
+-- no two numbers are written alike
+decimal_one : (a b : ℕ) → 0 < a → a < 1000 → 0 < b → b < 1000 → decimal a ≡ decimal b → a ≡ b
+decimal_one a b p q r s e =
+    let alike : digits a ≡ digits b = (decimal_padded a p q).same_digits ∙ ap pad e ∙ sym (decimal_padded b r s).same_digits in
+    let x : numeral (a / 100) ≡ numeral (b / 100) = cc in
+    let y : numeral (a / 10 % 10) ≡ numeral (b / 10 % 10) = cc in
+    let z : numeral (a % 10) ≡ numeral (b % 10) = cc in
+    omega arith
 
 -- ---- sizes in steps
 
--- what the list of a prefix with these sizes gives a name: its type and the size r, or nothing if r is 0
-abbrev pub SizeIn : List ℕ → List ℕ → List ℕ → ℕ → Type 0
-SizeIn prefix sizes name r = (t : ℕ) → look_up (sized prefix t sizes) name ≡ cond (eqb r 0) (0, 0) (t, r)
+-- what the list of a prefix with these sizes gives a name: its type and the size r
+abbrev pub SizeIn : List ℕ → List ℕ → List ℕ → Option ℕ → Type 0
+SizeIn prefix sizes name r = (t : ℕ) → look_up (sized prefix t sizes) name ≡ unwrap_or (option_map (λ m. (t, m)) r) (0, 0)
 
-module _ (prefix name : List ℕ) (step r : ℕ) (pos : 0 < step) (behind : Behind prefix name r) where
-  sized_none : (n : ℕ) → n * step < 1000 → ((k : ℕ) → 0 < k → k ≤ n → k * step ≡ r → ⊥) → SizeIn prefix (multiples step n) name 0
+module _ (prefix name : List ℕ) (step : ℕ) (pos : 0 < step) where
+  sized_none : (n : ℕ) → ((k : ℕ) → 0 < k → k ≤ n → prefix ++ decimal (k * step) ≢ name) → SizeIn prefix (multiples step n) name None
   unfolding look_up sized multiples
-  sized_none zero h none t = refl
-  sized_none (suc n) h none t =
-      rw (behind (suc n * step) (omega arith) h, ne_eqb (suc n * step) r (none (suc n) (omega arith) (omega arith)))
-      (sized_none n (omega arith) (λ k a b. none k a (omega arith)) t)
-
-  sized_some : (n : ℕ) → n * step < 1000 → (k : ℕ) → 0 < r → k ≤ n → k * step ≡ r → (t : ℕ) → look_up (sized prefix t (multiples step n)) name ≡ (t, r)
-  unfolding look_up sized multiples
-  sized_some zero h k a b e t = let z : k ≡ 0 = omega arith in absurd (omega (arith, rw z at e))
-  sized_some (suc n) h k a b e t =
-      rw (behind (suc n * step) (omega arith) h)
-      (⊎_elim
-      (λ (x : k < suc n).
-      let below : k ≤ n = omega arith in
-      rw (ne_eqb (suc n * step) r (λ y. omega (arith, mul-le-mul_right step below))) (sized_some n (omega arith) k a below e t))
-      (λ (x : suc n ≤ k). let y : k ≡ suc n = omega arith in let z : suc n * step ≡ r = rw y at e in rw (eq-eqb (suc n * step) r z, z))
-      (lt_or_le k (suc n)))
+  sized_none zero none t = refl
+  sized_none (suc n) none t = rw (differ _ _ (none (suc n) (omega arith) (omega arith))) (sized_none n (λ k a b. none k a (omega arith)) t)
 
   module _ (most : ℕ) (small : most < 1000) where
-    fits : most / step * step < 1000
-    fits = omega (arith, div-mul-le_self most step)
+    -- a size of the list is one from 1 to 999
+    size_fits : (k : ℕ) → 0 < k → k ≤ most / step → (0 < k * step) × (k * step ≤ most)
+    size_fits k a b = (mul-pos a pos, omega (arith, div-mul-le_self most step, mul-le-mul_right step b))
 
-    pub sized_large : most < r → SizeIn prefix (multiples step (most / step)) name 0
-    sized_large h =
-        sized_none (most / step) fits
-        (λ k a b x. omega (arith, div-mul-le_self most step, mul-le-mul_right step b))
+    -- no number stands behind the prefix
+    pub sized_other : ((m : ℕ) → 0 < m → m < 1000 → prefix ++ decimal m ≢ name) → SizeIn prefix (multiples step (most / step)) name None
+    sized_other none = sized_none (most / step) (λ k a b. let f = size_fits k a b in none (k * step) f.0 (omega (arith, f.1)))
 
-    pub sized_between : (r % step ≡ 0 → ⊥) → SizeIn prefix (multiples step (most / step)) name 0
-    sized_between h = sized_none (most / step) fits (λ k a b x. h (rw (← x) (mul-mod_left k step)))
+    -- the number m does
+    module _ (m : ℕ) (some : 0 < m) (few : m < 1000) (is : prefix ++ decimal m ≡ name) where
+      only_m : (k : ℕ) → 0 < k → k < 1000 → prefix ++ decimal k ≡ name → k ≡ m
+      only_m k a b e = decimal_one k m a b some few (append_cancel_left prefix (decimal k) (decimal m) (e ∙ sym is))
 
-    pub sized_within : r ≤ most → r % step ≡ 0 → SizeIn prefix (multiples step (most / step)) name r
-    sized_within h z t = ⊎_elim zero_size some_size (eq-zero-or-pos r)
-      where
-        zero_size : r ≡ 0 → look_up (sized prefix t (multiples step (most / step))) name ≡ cond (eqb r 0) (0, 0) (t, r)
-        zero_size e = rw e (sized_none (most / step) fits (λ k a b x. omega (arith, mul-pos a pos)) t)
+      pub sized_large : most < m → SizeIn prefix (multiples step (most / step)) name None
+      sized_large h =
+          sized_none (most / step)
+          (λ k a b e. let f = size_fits k a b in omega (arith, f.1, only_m (k * step) f.0 (omega (arith, f.1)) e))
 
-        some_size : 0 < r → look_up (sized prefix t (multiples step (most / step))) name ≡ cond (eqb r 0) (0, 0) (t, r)
-        some_size p =
-            let x : r / step * step ≡ r = omega (arith, div-add-mod' r step) in
-            rw (ne_eqb r 0 (omega arith)) (sized_some (most / step) fits (r / step) p ((le-div_iff_mul-le pos).1 (omega arith)) x t)
+      pub sized_between : m % step ≢ 0 → SizeIn prefix (multiples step (most / step)) name None
+      sized_between h =
+          sized_none (most / step)
+          (λ k a b e. let f = size_fits k a b in h (rw (← only_m (k * step) f.0 (omega (arith, f.1)) e) (mul-mod_left k step)))
+
+      sized_some : (n k : ℕ) → n ≤ most / step → 0 < k → k ≤ n → k * step ≡ m → SizeIn prefix (multiples step n) name (Some m)
+      unfolding look_up sized multiples
+      sized_some zero k h a b e t = absurd (omega arith)
+      sized_some (suc n) k h a b e t =
+          ⊎_elim
+          (λ (x : k < suc n).
+          let f = size_fits (suc n) (omega arith) h in
+          let other : prefix ++ decimal (suc n * step) ≢ name = λ y. omega (arith, only_m (suc n * step) f.0 (omega (arith, f.1)) y, mul-le-mul_right step x) in
+          rw (differ _ _ other) (sized_some n k (omega arith) a (omega arith) e t))
+          (λ (x : suc n ≤ k).
+          let y : k ≡ suc n = omega arith in
+          let z : suc n * step ≡ m = rw y at e in
+          rw (z, (same_equal (prefix ++ decimal m) name).1 is))
+          (lt_or_le k (suc n))
+
+      pub sized_within : m ≤ most → m % step ≡ 0 → SizeIn prefix (multiples step (most / step)) name (Some m)
+      sized_within h z =
+          let x : m / step * step ≡ m = omega (arith, div-add-mod' m step) in
+          let y : m / step ≤ most / step = (le-div_iff_mul-le pos).1 (omega arith) in
+          let w : 0 < m / step = pos_of_mul (m / step) x in
+          sized_some (most / step) (m / step) (omega arith) w y x
+        where
+          pos_of_mul : (k : ℕ) → k * step ≡ m → 0 < k
+          pos_of_mul zero e = absurd (omega arith)
+          pos_of_mul (suc k) e = omega arith
 
 -- ---- the list of type names
 
@@ -349,25 +296,58 @@ type_parts : (name : List ℕ) → type_of name
 unfolding type_of type_names
 type_parts name = look_four bare_types uint_types int_types bytes_types name bare_typed uint_typed int_typed
 
+-- a type that is told has a number
+some_type : (t : NameType) → eqb (type_numbers (Some t)).0 type_none ≡ false
+some_type types.Address = refl
+some_type types.Bool = refl
+some_type types.String = refl
+some_type types.Bytes = refl
+some_type (types.Uint bits) = refl
+some_type (types.Int bits) = refl
+some_type (types.BytesN count) = refl
+
+pub told_some : (o : Option NameType) → is_some o ≡ not (eqb (type_numbers o).0 type_none)
+told_some None = refl
+told_some (Some t) = sym (ap not (some_type t))
+
 -- what the parts that were looked through answered, and the type by it
-module _ (name : List ℕ) (t s : ℕ) (bare : ◌≡◌ {A = ℕ × ℕ} (t, s) (look_up bare_types name)) where
-  pub type_bare : (t ≡ type_none → ⊥) → ◌≡◌ {A = ℕ × ℕ} (t, s) (type_of name)
-  type_bare some = rw (type_parts, sym bare, ne_eqb t type_none some)
+module _ (name : List ℕ) where
+  pub type_bare : (t : NameType) → type_numbers (Some t) ≡ look_up bare_types name → type_numbers (Some t) ≡ type_of name
+  type_bare t e = rw (type_parts, sym e, some_type t)
 
-  module _ (not-bare : t ≡ type_none) (u : ℕ) (uint : SizeIn (bytes "uint") (multiples bits_step (widest_bits / bits_step)) name u) where
-    pub type_uint_lem : (u ≡ 0 → ⊥) → ◌≡◌ {A = ℕ × ℕ} (type_uint, u) (type_of name)
-    type_uint_lem some = rw (type_parts, sym bare, eq-eqb t type_none not-bare, uint type_uint, ne_eqb u 0 some)
+  module _ (no-bare : type_numbers None ≡ look_up bare_types name) where
+    pub type_uint_lem : (m : ℕ) → SizeIn (bytes "uint") (multiples bits_step (widest_bits / bits_step)) name (Some m) → ◌≡◌ {A = ℕ × ℕ} (type_uint, m) (type_of name)
+    type_uint_lem m uint = rw (type_parts, sym no-bare, uint type_uint)
 
-    module _ (no-uint : u ≡ 0) (i : ℕ) (int : SizeIn (bytes "int") (multiples bits_step (widest_bits / bits_step)) name i) where
-      past_uint : type_of name ≡ cond (eqb (look_up int_types name).0 type_none) (look_up bytes_types name) (look_up int_types name)
-      past_uint = rw (type_parts, sym bare, eq-eqb t type_none not-bare, uint type_uint, eq-eqb u 0 no-uint)
+    module _ (no-uint : SizeIn (bytes "uint") (multiples bits_step (widest_bits / bits_step)) name None) where
+      pub type_int_lem : (m : ℕ) → SizeIn (bytes "int") (multiples bits_step (widest_bits / bits_step)) name (Some m) → ◌≡◌ {A = ℕ × ℕ} (type_int, m) (type_of name)
+      type_int_lem m int = rw (type_parts, sym no-bare, no-uint type_uint, int type_int)
 
-      pub type_int_lem : (i ≡ 0 → ⊥) → ◌≡◌ {A = ℕ × ℕ} (type_int, i) (type_of name)
-      type_int_lem some = rw (past_uint, int type_int, ne_eqb i 0 some)
+      module _ (no-int : SizeIn (bytes "int") (multiples bits_step (widest_bits / bits_step)) name None) where
+        past_int : type_of name ≡ look_up bytes_types name
+        past_int = rw (type_parts, sym no-bare, no-uint type_uint, no-int type_int)
 
-      module _ (no-int : i ≡ 0) (b : ℕ) (sized-bytes : SizeIn (bytes "bytes") (multiples 1 widest_bytes) name b) where
-        pub type_bytes_lem : (b ≡ 0 → ⊥) → ◌≡◌ {A = ℕ × ℕ} (type_bytes_n, b) (type_of name)
-        type_bytes_lem some = rw (past_uint, int type_int, eq-eqb i 0 no-int, sized-bytes type_bytes_n, ne_eqb b 0 some)
+        pub type_bytes_lem : (m : ℕ) → SizeIn (bytes "bytes") (multiples 1 widest_bytes) name (Some m) → ◌≡◌ {A = ℕ × ℕ} (type_bytes_n, m) (type_of name)
+        type_bytes_lem m sized-bytes = sym (past_int ∙ sized-bytes type_bytes_n)
 
-        pub type_none_lem : b ≡ 0 → ◌≡◌ {A = ℕ × ℕ} (type_none, 0) (type_of name)
-        type_none_lem none = rw (past_uint, int type_int, eq-eqb i 0 no-int, sized-bytes type_bytes_n, eq-eqb b 0 none)
+        pub type_none_lem : SizeIn (bytes "bytes") (multiples 1 widest_bytes) name None → ◌≡◌ {A = ℕ × ℕ} (type_none, 0) (type_of name)
+        type_none_lem no-bytes = sym (past_int ∙ no-bytes type_bytes_n)
+
+-- what is wrong otherwise has another number than 7
+pub other_wrong : (w : Wrong) → w ≢ wrong.InvalidTypeAsArgumentName → eqb (wrong_number w) InvalidTypeAsArgumentName ≡ false
+other_wrong wrong.UnexpectedType h = refl
+other_wrong wrong.InvalidDefinition h = refl
+other_wrong wrong.InvalidConstantValue h = refl
+other_wrong wrong.InvalidPush h = refl
+other_wrong wrong.InvalidTokenInMacroBody h = refl
+other_wrong wrong.InvalidTokenInLabelDefinition h = refl
+other_wrong wrong.InvalidTypeAsArgumentName h = absurd (h refl)
+other_wrong wrong.InvalidArgs h = refl
+other_wrong wrong.InvalidSingleArg h = refl
+other_wrong wrong.InvalidMacroArgs h = refl
+other_wrong wrong.InvalidTableBodyToken h = refl
+other_wrong wrong.InvalidConstant h = refl
+other_wrong wrong.InvalidArgCallIdent h = refl
+other_wrong wrong.DuplicateMacro h = refl
+other_wrong wrong.PoundAtTopLevel h = refl
+other_wrong wrong.DuplicateLabel h = refl

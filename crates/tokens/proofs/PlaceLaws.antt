@@ -15,8 +15,8 @@ use Rattle.tokens.proofs.FormedLaws.{whole_says, Good, good_says}
 use Rattle.tokens.proofs.KeptLaws.{kept_rising, kept_numbered}
 use Rattle.tokens.proofs.TokenLaws.{field_inside}
 use Rattle.tokens.specs.Door.{values, door, kept_after, Prepared}
-use Rattle.tokens.specs.declared.door.Door.{Door}
-use Rattle.tokens.specs.declared.door.Door.TheVariants.{Ready}
+use Rattle.std.specs.Prelude.{Result, Ok}
+use Rattle.tokens.specs.declared.door.Unready.{Unready}
 use Rattle.tokens.proofs.DoorLaws.{LetThrough, ready}
 
 -- ---- the tokens of the lent list
@@ -80,7 +80,7 @@ from_door text words formed few =
     record { numbered = kept_numbered words; few = omega (arith, (kept_rising words).few); lined = lined_kept text words formed }
 
 -- let through by the door: the part of the kept list up to the count is what was kept, and the start is a place in it
-pub kept_part : (text words : List ℕ) (start : ℕ) (kept : List ℕ) {kept' : List ℕ} {d : Door} {n : ℕ} → Prepared text words start kept d kept' → d ≡ Ready n
+pub kept_part : (text words : List ℕ) (start : ℕ) (kept : List ℕ) {kept' : List ℕ} {d : Result ℕ Unready} {n : ℕ} → Prepared text words start kept d kept' → d ≡ Ok n
     → (take (n - 0) kept' ≡ kept_of words) × (n ≤ length kept') × Place words (kept_of words) start
 kept_part text words start kept {kept'} {d} {n} p e =
     let said : (0, n) ≡ door text words start (length kept) = ap values (sym e) ∙ p.answer in

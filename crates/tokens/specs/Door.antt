@@ -1,8 +1,8 @@
 -- The door: 30, then 35, then 31, before anything is written. A file is read from start 0, which 31 never refuses.
-use Rattle.std.specs.Prelude.{ℕ, ◌≡◌, cond, List, length, eqb, ltb}
+use Rattle.std.specs.Prelude.{ℕ, ◌≡◌, cond, List, length, eqb, ltb, Result, Ok, Err}
 use Rattle.std.proofs.lemmas.List.Edits.{sets}
-use Rattle.tokens.specs.declared.door.Door.{Door}
-use Rattle.tokens.specs.declared.door.Door.TheVariants.{NotWellFormed, KeptTooShort, StartOutside, Ready}
+use Rattle.tokens.specs.declared.door.Unready.{Unready}
+use Rattle.tokens.specs.declared.door.Unready.TheVariants.{NotWellFormed, KeptTooShort, StartOutside}
 use Rattle.tokens.specs.Number as number
 use Rattle.tokens.specs.Token.{token_count}
 use Rattle.tokens.specs.WellFormed.{whole_good, first_bad}
@@ -10,11 +10,11 @@ use Rattle.tokens.specs.Kept.{kept_of}
 
 -- document 01's number and cursor for each answer: the cursor is the first bad token's number (0 for the whole list), the kept count, the start; let
 -- through, 0 and the kept count
-abbrev pub values : Door → ℕ × ℕ
-values (NotWellFormed at) = (number.NotWellFormed, at)
-values (KeptTooShort count) = (number.KeptTooShort, count)
-values (StartOutside at) = (number.StartOutside, at)
-values (Ready count) = (0, count)
+abbrev pub values : Result ℕ Unready → ℕ × ℕ
+values (Err (NotWellFormed at)) = (number.NotWellFormed, at)
+values (Err (KeptTooShort count)) = (number.KeptTooShort, count)
+values (Err (StartOutside at)) = (number.StartOutside, at)
+values (Ok count) = (0, count)
 
 -- number and cursor for a start and a kept list of `room` words
 unfoldable pub door : List ℕ → List ℕ → ℕ → ℕ → ℕ × ℕ
@@ -30,6 +30,6 @@ abbrev pub kept_after : ℕ → List ℕ → List ℕ → List ℕ
 kept_after c words kept = cond (eqb c 0) (sets kept 0 (kept_of words)) kept
 
 -- what `prepare` promises: its answer r, and the kept list afterwards
-pub record Prepared (text words : List ℕ) (start : ℕ) (kept : List ℕ) (r : Door) (kept' : List ℕ) : Type 0 where
+pub record Prepared (text words : List ℕ) (start : ℕ) (kept : List ℕ) (r : Result ℕ Unready) (kept' : List ℕ) : Type 0 where
   pub answer : values r ≡ door text words start (length kept)
   pub list : kept' ≡ kept_after (door text words start (length kept)).0 words kept

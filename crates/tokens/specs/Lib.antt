@@ -14,3 +14,5 @@ pub mod Door
 pub mod Keep
 pub mod Place
 pub mod Lent
+pub mod Refusal
+pub mod Source

@@ -1,9 +1,11 @@
 -- Names. Document 01, "Grammar of a body": the reserved type names, the port's list from the Solidity ABI specification; request [10]: which type each of them is, and its
 -- size. And of any names: is one of them this one, do they all differ.
-use Rattle.std.specs.Prelude.{ℕ, zero, suc, ◌*◌, ◌/◌, ◌%◌, ◌≡◌, Bool, false, cond, not, ◌||◌, List, [], ◌∷◌, ◌++◌, map, ltb, eqb}
+use Rattle.std.specs.Prelude.{ℕ, zero, suc, ◌*◌, ◌/◌, ◌%◌, ◌≡◌, Bool, false, cond, not, ◌||◌, List, [], ◌∷◌, ◌++◌, map, ltb, eqb, Option, Some, None}
 use Rattle.tokens.specs.Byte.{bytes, same, numeral}
 use Rattle.tokens.specs.Number.{InvalidTypeAsArgumentName, type_none, type_address, type_bool, type_string, type_bytes, type_uint, type_int, type_bytes_n, widest_bits, bits_step, widest_bytes}
 use Rattle.tokens.specs.Token.{Token}
+use Rattle.tokens.specs.declared.name.NameType.{NameType}
+use Rattle.tokens.specs.declared.name.NameType.TheVariants as types
 
 -- the decimal digits of a number below 1000, no zero in front
 unfoldable pub decimal : ℕ → List ℕ
@@ -68,6 +70,17 @@ reserved name = not (eqb (type_of name).0 type_none)
 -- the type and the size in an answer with this number, where this token stands at the cursor: the token's for 7, else 0, 0
 unfoldable pub type_told : ℕ → Token → ℕ × ℕ
 type_told c t = cond (eqb c InvalidTypeAsArgumentName) (type_of t.text) (type_none, 0)
+
+-- type and size of what the code tells: 0, 0 for none
+abbrev pub type_numbers : Option NameType → ℕ × ℕ
+type_numbers None = (type_none, 0)
+type_numbers (Some types.Address) = (type_address, 0)
+type_numbers (Some types.Bool) = (type_bool, 0)
+type_numbers (Some types.String) = (type_string, 0)
+type_numbers (Some types.Bytes) = (type_bytes, 0)
+type_numbers (Some (types.Uint bits)) = (type_uint, bits)
+type_numbers (Some (types.Int bits)) = (type_int, bits)
+type_numbers (Some (types.BytesN bytes)) = (type_bytes_n, bytes)
 
 -- the name is one of the list
 unfoldable pub one_of : List (List ℕ) → List ℕ → Bool

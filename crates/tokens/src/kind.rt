@@ -1,4 +1,4 @@
-// The kinds of a token, by name: what stands in the first of its four words.
+// The kinds of a token, by name: what stands in the first of its four words. Numbers and no enum: C lends the list, and an enum would have to be made of its word at each look.
 pub const EOF: u32 = 0;
 
 pub const WHITESPACE: u32 = 1;

@@ -1,21 +1,10 @@
 // Tables of records, in words: what is written is written only where it fits whole.
-ghost use Rattle.std.specs.Prelude.{◌≡◌, ◌+◌, ◌*◌, ◌≤◌, min, length, replicate};
-ghost use Rattle.std.proofs.lemmas.List.Edits.{sets};
+ghost use Rattle.std.specs.Prelude.{◌≡◌, ◌*◌, min, length, replicate};
 ghost use Rattle.tokens.specs.Lent.{put, cleared_behind};
 
-// Words one behind the other, where there is room for all.
-fn put_words(table: &mut [u32], at: usize, words: &[u32])
-    requires { at + length words.now ≤ length table.old }
-    ensures { table.new ≡ sets table.old at words.now }
-{
-    let mut i = 0;
-    while i < words.len() {
-        table[at + i] = words[i];
-        i += 1;
-    }
-}
-
-// Record number n of a table of records as wide as this one, where the whole of it lies in the table.
+// Record number n of a table of records as wide as this one, where the whole of it lies in the table. The words are a slice, none of them too: the
+// promise, `put` (specs/Lent), is of any width, is named in docs/PROMISES.md, and four crates call it so. An array with a const parameter would change it for all of them.
+#[tactic(auto, using(crate::proofs::LentLaws::part_written, crate::proofs::Laws::put_empty, crate::proofs::Laws::put_fits, crate::proofs::Laws::put_full, crate::proofs::Laws::record_inside, crate::proofs::Laws::pos_of_ne))]
 pub fn put_record(table: &mut [u32], n: usize, words: &[u32])
     ensures { table.new ≡ put (length words.now) table.old n words.now }
 {
@@ -24,7 +13,7 @@ pub fn put_record(table: &mut [u32], n: usize, words: &[u32])
         return;
     }
     if n < table.len() / w {
-        put_words(table, n * w, words);
+        table[n * w..n * w + w].copy_from_slice(words);
     }
 }
 
@@ -32,24 +21,18 @@ pub fn put_record(table: &mut [u32], n: usize, words: &[u32])
 pub fn clear(table: &mut [u32])
     ensures { table.new ≡ replicate (length table.old) 0 }
 {
-    let mut i = 0;
-    while i < table.len() {
-        table[i] = 0;
-        i += 1;
-    }
+    table.fill(0);
 }
 
-// Where record number n of w words begins in a table of `len` words, at most at its end: the part from there on is what is still free.
+// Here and below the width is a number, as in `cleared_behind` (specs/Lent). Where record number n of w words begins in a table of `len` words, at most at its end: the part from there on is what is still free.
 pub fn start_of(len: usize, n: usize, w: usize) -> usize
     ensures { result ≡ min (n * w) len }
 {
-    if w == 0 {
-        return 0;
-    }
-    if n <= len / w { n * w } else { len }
+    n.saturating_mul(w).min(len)
 }
 
 // Every word behind the first n records of w words 0.
+#[tactic(auto, using(crate::proofs::LentLaws::rest_cleared))]
 pub fn clear_behind(table: &mut [u32], n: usize, w: usize)
     ensures { table.new ≡ cleared_behind w n table.old }
 {

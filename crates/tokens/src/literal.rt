@@ -3,7 +3,9 @@ ghost use Rattle.std.specs.Prelude.{◌≡◌, ◌-◌, ◌/◌, ◌%◌, ◌^�
 ghost use Rattle.tokens.specs.Byte.{is_hex, digit, all_hex, value_after};
 ghost use Rattle.tokens.specs.Literal.{is_literal, literal_value, is_zero, significant};
 
-// A hex digit of either case. No branch: which range a byte lies in can't be foreseen.
+// A hex digit of either case. No branch: which range a byte lies in can't be foreseen. `is_ascii_hexdigit` proves as well, but with
+// its likes in lexer, `is_ascii_digit` and `is_ascii_alphanumeric`, a text of words took a fifth longer (bench/README.md).
+#[tactic(auto, unfolding(crate::specs::Byte::is_hex))]
 pub fn is_hex(c: u8) -> bool
     ensures { result ≡ is_hex c }
 {
@@ -13,14 +15,16 @@ pub fn is_hex(c: u8) -> bool
     decimal | small | capital
 }
 
-// What a hex digit is worth; any other byte 0.
+// What a hex digit is worth; any other byte 0, which the door lets through in no literal. No Option, and no `to_digit`: the promise, `digit` (specs/Byte), is named in
+// docs/PROMISES.md, says 0, and has these three ranges.
+#[tactic(auto, using(crate::proofs::LiteralLaws::inside, crate::proofs::LiteralLaws::under, crate::proofs::LiteralLaws::over), unfolding(crate::specs::Byte::digit))]
 pub fn digit_value(c: u8) -> u64
     ensures { result ≡ digit c }
 {
     match c {
-        b'0'..=b'9' => (c - b'0') as u64,
-        b'a'..=b'f' => (c - b'a' + 10) as u64,
-        b'A'..=b'F' => (c - b'A' + 10) as u64,
+        b'0'..=b'9' => u64::from(c - b'0'),
+        b'a'..=b'f' => u64::from(c - b'a' + 10),
+        b'A'..=b'F' => u64::from(c - b'A' + 10),
         _ => 0,
     }
 }
@@ -29,75 +33,56 @@ pub fn digit_value(c: u8) -> u64
 pub fn all_hex(name: &[u8]) -> bool
     ensures { result ≡ all_hex name.now }
 {
-    let mut all = true;
-    let mut i = 0;
-    while i < name.len() {
-        all = all & is_hex(name[i]);
-        i += 1;
-    }
-    all
+    name.iter().fold(true, |all, c| all & is_hex(*c))
 }
 
 // 0x and 1 to 64 hex digits.
+#[tactic(auto, using(crate::proofs::LiteralLaws::not_two, crate::proofs::LiteralLaws::not_zero, crate::proofs::LiteralLaws::not_x, crate::proofs::LiteralLaws::no_digit, crate::proofs::LiteralLaws::many_digits, crate::proofs::LiteralLaws::by_digits))]
 pub fn is_literal(text: &[u8]) -> bool
     ensures { result ≡ is_literal text.now }
 {
-    let n = text.len();
-    if n < 3 {
+    let [b'0', b'x', digits @ ..] = text else {
         return false;
+    };
+    match digits.len() {
+        1..=64 => all_hex(digits),
+        _ => false,
     }
-    if 66 < n {
-        return false;
-    }
-    if text[0] != b'0' {
-        return false;
-    }
-    if text[1] != b'x' {
-        return false;
-    }
-    all_hex(&text[2..])
 }
 
-// The number that at most 16 digits write: a quarter of a literal.
+// The number that at most 16 digits write: a quarter of a literal. Unlike decimal numbers elsewhere it always fits, so no product is checked.
 fn quarter(digits: &[u8]) -> u64
     requires { length digits.now ≤ 16 }
     ensures { result ≡ value_after 0 digits.now }
 {
     let mut n: u64 = 0;
-    let mut i = 0;
-    while i < digits.len() {
-        let d = digit_value(digits[i]);
-        n = n * 16 + d;
-        i += 1;
+    for digit in digits {
+        n = n * 16 + digit_value(*digit);
     }
     n
 }
 
 // The significant bytes of a quarter, from its leading zeros; zero has one byte too.
+#[tactic(auto, using(crate::proofs::LiteralLaws::significant_zero, crate::proofs::LiteralLaws::from_leading_up))]
 fn bytes_of(quarter: u64) -> usize
     ensures { result ≡ significant quarter }
 {
     if quarter == 0 {
         return 1;
     }
-    let zeros = u64::leading_zeros(quarter) as usize;
-    (64 - zeros + 7) / 8
+    let zeros = quarter.leading_zeros() as usize;
+    (64 - zeros).div_ceil(8)
 }
 
 // The place `back` digits before the end of a text, or where its digits begin.
 fn before_end(end: usize, back: usize) -> usize
     ensures { result ≡ min end (max 2 (end - back)) }
 {
-    if end < 2 {
-        return end;
-    }
-    if end - 2 < back {
-        return 2;
-    }
-    end - back
+    end.saturating_sub(back).max(2).min(end)
 }
 
 // The quarter of a literal that has `back` digits behind it.
+#[tactic(auto, using(crate::proofs::LiteralLaws::quarter_value))]
 fn quarter_at(literal: &[u8], back: usize) -> u64
     ensures { result ≡ value_after 0 (drop 2 literal.now) / 16 ^ back % 2 ^ 64 }
 {
@@ -108,49 +93,33 @@ fn quarter_at(literal: &[u8], back: usize) -> u64
 
 // The significant bytes of a literal by all its quarters. Its last 64 digits are four quarters of 64 bits: the highest that is not zero decides, by its
 // leading zeros, and all bytes behind it are significant.
+#[tactic(auto, using(crate::proofs::LiteralLaws::significant_between, crate::proofs::LiteralLaws::quarter_found, crate::proofs::LiteralLaws::quarter_passed), unfolding(crate::specs::Literal::literal_value))]
 fn bytes_of_four(literal: &[u8]) -> usize
     ensures { result ≡ significant (literal_value literal.now) }
 {
-    let highest = quarter_at(literal, 48);
-    if highest != 0 {
-        return bytes_of(highest) + 24;
-    }
-    let third = quarter_at(literal, 32);
-    if third != 0 {
-        return bytes_of(third) + 16;
-    }
-    let second = quarter_at(literal, 16);
-    if second != 0 {
-        return bytes_of(second) + 8;
+    for i in (1..4).rev() {
+        let quarter = quarter_at(literal, 16 * i);
+        if quarter != 0 {
+            return bytes_of(quarter) + 8 * i;
+        }
     }
     bytes_of(quarter_at(literal, 0))
 }
 
 // A literal's significant bytes. One of at most 16 digits, as most are, is a single quarter.
+#[tactic(auto, using(crate::proofs::LiteralLaws::short_value))]
 pub fn significant_bytes(literal: &[u8]) -> usize
     ensures { result ≡ significant (literal_value literal.now) }
 {
-    if literal.len() < 2 {
-        return bytes_of_four(literal);
+    match literal.len() {
+        2..=18 => bytes_of(quarter(&literal[2..])),
+        _ => bytes_of_four(literal),
     }
-    if 18 < literal.len() {
-        return bytes_of_four(literal);
-    }
-    bytes_of(quarter(&literal[2..]))
 }
 
 // A literal's value is zero, however many digits write it: all its quarters are. The last comes first, since it tells of most literals.
 pub fn is_zero(literal: &[u8]) -> bool
     ensures { result ≡ is_zero literal.now }
 {
-    if quarter_at(literal, 0) != 0 {
-        return false;
-    }
-    if quarter_at(literal, 16) != 0 {
-        return false;
-    }
-    if quarter_at(literal, 32) != 0 {
-        return false;
-    }
-    quarter_at(literal, 48) == 0
+    (0..4).all(|i| quarter_at(literal, 16 * i) == 0)
 }

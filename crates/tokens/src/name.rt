@@ -1,213 +1,152 @@
 // Names: equality byte for byte, and the types that names can be.
-ghost use Rattle.std.specs.Prelude.{ℕ, ◌/◌, ◌%◌, ◌<◌, ◌≤◌, ◌≡◌, cond, ◌&&◌, [], ◌∷◌, ◌++◌, leb, eqb};
+ghost use Rattle.std.specs.Prelude.{ℕ, ◌/◌, ◌%◌, ◌<◌, ◌≤◌, ◌≡◌, ◌≢◌, [], ◌∷◌, MatchOption, option_map, unwrap_or};
 ghost use Rattle.tokens.specs.Byte.{same, numeral};
 ghost use Rattle.tokens.specs.Token.{token_at, view};
-ghost use Rattle.tokens.specs.Place.{Numbered};
-ghost use Rattle.tokens.specs.Name.{decimal, multiples, sized, look_up, bare_types, type_of, reserved, type_told};
+ghost use Rattle.tokens.specs.Name.{decimal, multiples, sized, look_up, bare_types, type_of, reserved, type_told, type_numbers};
 
 use crate::number;
-use crate::token::text_at;
+use crate::refusal::{Refusal, Wrong};
+use crate::source::Source;
 
-// Equal byte for byte.
+// Equal byte for byte: `==`, with a clause in the rules' words (`same`, specs/Byte), which the proofs of names, lexer and spelling cite.
+#[tactic(auto, using(crate::proofs::NameLaws::same_is))]
 pub fn same_name(a: &[u8], b: &[u8]) -> bool
     ensures { result ≡ same a.now b.now }
 {
-    if a.len() != b.len() {
-        return false;
-    }
-    let mut i = 0;
-    while i < a.len() {
-        if a[i] != b[i] {
-            return false;
-        }
-        i += 1;
-    }
-    true
+    a == b
 }
 
-// The digit that a byte writes, or 10 if it writes none.
-fn digit_of(c: u8) -> usize
-    ensures { (result ≤ 10) × ((d : ℕ) → d < 10 → eqb (numeral d) c ≡ eqb d result) }
+// The digit that a byte writes.
+fn digit_of(c: u8) -> Option<usize>
+    ensures { MatchOption result ((d : ℕ) → d < 10 → numeral d ≢ c) (λ d. (d < 10) × (numeral d ≡ c)) }
 {
-    match c {
-        b'0'..=b'9' => (c - b'0') as usize,
-        _ => 10,
-    }
+    let digit = char::from(c).to_digit(10)?;
+    Some(digit as usize)
 }
 
-// The number whose three digits these are, if it is at least `least`; else 0. So `least` keeps out zeros in front.
-fn number(h: u8, t: u8, o: u8, least: usize) -> usize
-    ensures { (result < 1000) × ((m : ℕ) → 0 < m → m < 1000
-        → (same (numeral (m / 100) ∷ numeral (m / 10 % 10) ∷ numeral (m % 10) ∷ []) (h ∷ t ∷ o ∷ []) && leb least m) ≡ eqb m result) }
+// The number whose three digits these are, if it is at least `least`. So `least` keeps out zeros in front.
+fn of_digits(h: u8, t: u8, o: u8, least: usize) -> Option<usize>
+    ensures { MatchOption result
+        ((m : ℕ) → m < 1000 → least ≤ m → (numeral (m / 100) ∷ numeral (m / 10 % 10) ∷ numeral (m % 10) ∷ []) ≢ (h ∷ t ∷ o ∷ []))
+        (λ m. (m < 1000) × (least ≤ m) × ((numeral (m / 100) ∷ numeral (m / 10 % 10) ∷ numeral (m % 10) ∷ []) ≡ h ∷ t ∷ o ∷ [])) }
 {
-    let a = digit_of(h);
-    let b = digit_of(t);
-    let c = digit_of(o);
-    if 9 < a {
-        return 0;
+    let m = digit_of(h)? * 100 + digit_of(t)? * 10 + digit_of(o)?;
+    if m < least {
+        return None;
     }
-    if 9 < b {
-        return 0;
-    }
-    if 9 < c {
-        return 0;
-    }
-    let n = a * 100 + b * 10 + c;
-    if n < least {
-        return 0;
-    }
-    n
+    Some(m)
 }
 
-// The number from 1 to 999 that the bytes write in decimal, or 0 if there is none.
-fn decimal_of(part: &[u8]) -> usize
-    ensures { (result < 1000) × ((m : ℕ) → 0 < m → m < 1000 → same (decimal m) part.now ≡ eqb m result) }
+// The number from 1 to 999 that the bytes write in decimal. Not by `parse`, which takes `08` and `+8` too: the lengths are those of the definition `decimal` (specs/Name).
+#[tactic(auto, using(crate::proofs::NameLaws::reads_one, crate::proofs::NameLaws::reads_two, crate::proofs::NameLaws::reads_three, crate::proofs::NameLaws::reads_none))]
+fn decimal_of(part: &[u8]) -> Option<usize>
+    ensures { MatchOption result ((m : ℕ) → 0 < m → m < 1000 → decimal m ≢ part.now) (λ m. (0 < m) × (m < 1000) × (decimal m ≡ part.now)) }
 {
-    let n = part.len();
-    if n == 1 {
-        return number(b'0', b'0', part[0], 1);
+    match part {
+        [o] => of_digits(b'0', b'0', *o, 1),
+        [t, o] => of_digits(b'0', *t, *o, 10),
+        [h, t, o] => of_digits(*h, *t, *o, 100),
+        _ => None,
     }
-    if n == 2 {
-        return number(b'0', part[0], part[1], 10);
-    }
-    if n == 3 {
-        return number(part[0], part[1], part[2], 100);
-    }
-    0
 }
 
-// The size that stands behind the prefix, from 1 to 999, or 0 if the name is not the prefix and such a number.
-fn size_behind(name: &[u8], prefix: &[u8]) -> usize
-    ensures { (result < 1000) × ((m : ℕ) → 0 < m → m < 1000 → same (prefix.now ++ decimal m) name.now ≡ eqb m result) }
-{
-    let n = prefix.len();
-    if name.len() < n {
-        return 0;
-    }
-    if same_name(prefix, &name[0..n]) {
-        return decimal_of(&name[n..]);
-    }
-    0
-}
-
-// The size of a name that is the prefix with a multiple of `step` up to `most` behind it; 0 if it is none.
-fn size_in(name: &[u8], prefix: &[u8], step: usize, most: usize) -> usize
+// The size of a name that is the prefix with a multiple of `step` up to `most` behind it.
+fn size_in(name: &[u8], prefix: &[u8], step: usize, most: usize) -> Option<usize>
     requires { (0 < step) × (most < 1000) }
-    ensures { (result < 1000) × ((t : ℕ) → look_up (sized prefix.now t (multiples step (most / step))) name.now ≡ cond (eqb result 0) (0, 0) (t, result)) }
+    ensures { (t : ℕ) → look_up (sized prefix.now t (multiples step (most / step))) name.now ≡ unwrap_or (option_map (λ m. (t, m)) result) (0, 0) }
 {
-    let m = size_behind(name, prefix);
-    if most < m {
-        return 0;
+    let m = decimal_of(name.strip_prefix(prefix)?)?;
+    if most < m || m % step != 0 {
+        return None;
     }
-    if m % step == 0 {
-        return m;
-    }
-    0
+    Some(m)
 }
 
-// Which type a name is, with its size: the bits of uint and int, the bytes of bytesN, else 0. Both are 0 for a name that is none.
-#[derive(Drop)]
-pub struct NameType {
-    pub ty: u32,
-    pub size: usize,
+// Which type a name is: with the bits of uint and int, the bytes of bytesN.
+#[derive(Clone, Copy, Debug, PartialEq, Eq)]
+pub enum NameType {
+    Address,
+    Bool,
+    String,
+    Bytes,
+    Uint(usize),
+    Int(usize),
+    BytesN(usize),
 }
 
-// Of a name that is no type.
-const NO_TYPE: NameType = NameType {
-    ty: number::TYPE_NONE,
-    size: 0,
-};
+// The two numbers in an answer: which type, and its size.
+pub fn type_numbers(told: Option<NameType>) -> (u32, usize)
+    ensures { result ≡ type_numbers told }
+{
+    match told {
+        None => (number::TYPE_NONE, 0),
+        Some(NameType::Address) => (number::TYPE_ADDRESS, 0),
+        Some(NameType::Bool) => (number::TYPE_BOOL, 0),
+        Some(NameType::String) => (number::TYPE_STRING, 0),
+        Some(NameType::Bytes) => (number::TYPE_BYTES, 0),
+        Some(NameType::Uint(bits)) => (number::TYPE_UINT, bits),
+        Some(NameType::Int(bits)) => (number::TYPE_INT, bits),
+        Some(NameType::BytesN(bytes)) => (number::TYPE_BYTES_N, bytes),
+    }
+}
 
-// The type of a name with no size behind it.
-fn bare_type(name: &[u8]) -> NameType
-    ensures { (result.ty, result.size) ≡ look_up bare_types name.now }
+// The type of a name with no size behind it. By tests and no table: a table of names is pointers, words that the loader writes, and the archive has none (faults/README.md).
+fn bare_type(name: &[u8]) -> Option<NameType>
+    ensures { type_numbers result ≡ look_up bare_types name.now }
 {
     if same_name(b"address", name) {
-        return NameType {
-            ty: number::TYPE_ADDRESS,
-            size: 0,
-        };
+        return Some(NameType::Address);
     }
     if same_name(b"bool", name) {
-        return NameType {
-            ty: number::TYPE_BOOL,
-            size: 0,
-        };
+        return Some(NameType::Bool);
     }
     if same_name(b"string", name) {
-        return NameType {
-            ty: number::TYPE_STRING,
-            size: 0,
-        };
+        return Some(NameType::String);
     }
     if same_name(b"bytes", name) {
-        return NameType {
-            ty: number::TYPE_BYTES,
-            size: 0,
-        };
+        return Some(NameType::Bytes);
     }
     if same_name(b"uint", name) {
-        return NameType {
-            ty: number::TYPE_UINT,
-            size: number::WIDEST_BITS,
-        };
+        return Some(NameType::Uint(number::WIDEST_BITS));
     }
     if same_name(b"int", name) {
-        return NameType {
-            ty: number::TYPE_INT,
-            size: number::WIDEST_BITS,
-        };
+        return Some(NameType::Int(number::WIDEST_BITS));
     }
-    NO_TYPE
+    None
 }
 
 // The type of a name, in place of the Rust's `PrimitiveEVMType::try_from`.
-pub fn type_of(name: &[u8]) -> NameType
-    ensures { (result.ty, result.size) ≡ type_of name.now }
+pub fn type_of(name: &[u8]) -> Option<NameType>
+    ensures { type_numbers result ≡ type_of name.now }
 {
-    let bare = bare_type(name);
-    if bare.ty != number::TYPE_NONE {
-        return bare;
+    if let Some(told) = bare_type(name) {
+        return Some(told);
     }
-    let unsigned = size_in(name, b"uint", number::BITS_STEP, number::WIDEST_BITS);
-    if unsigned != 0 {
-        return NameType {
-            ty: number::TYPE_UINT,
-            size: unsigned,
-        };
+    if let Some(bits) = size_in(name, b"uint", number::BITS_STEP, number::WIDEST_BITS) {
+        return Some(NameType::Uint(bits));
     }
-    let signed = size_in(name, b"int", number::BITS_STEP, number::WIDEST_BITS);
-    if signed != 0 {
-        return NameType {
-            ty: number::TYPE_INT,
-            size: signed,
-        };
+    if let Some(bits) = size_in(name, b"int", number::BITS_STEP, number::WIDEST_BITS) {
+        return Some(NameType::Int(bits));
     }
-    let bytes = size_in(name, b"bytes", 1, number::WIDEST_BYTES);
-    if bytes != 0 {
-        return NameType {
-            ty: number::TYPE_BYTES_N,
-            size: bytes,
-        };
-    }
-    NO_TYPE
+    let bytes = size_in(name, b"bytes", 1, number::WIDEST_BYTES)?;
+    Some(NameType::BytesN(bytes))
 }
 
 // A reserved type name: one that has a type. The test that the Rust makes of an argument's name.
+#[tactic(auto, using(crate::proofs::NameLaws::told_some), unfolding(crate::specs::Name::reserved))]
 pub fn is_reserved(name: &[u8]) -> bool
     ensures { result ≡ reserved name.now }
 {
-    let t = type_of(name);
-    t.ty != number::TYPE_NONE
+    type_of(name).is_some()
 }
 
-// The type and the size in an answer with this number: for 7 those of the token at the cursor, for every other none. So no reader carries them: the entry asks once.
-pub fn type_told(text: &[u8], tokens: &[u32], kept: &[u32], refusal: u32, cursor: usize) -> NameType
-    requires { Numbered tokens.now kept.now }
-    ensures { (result.ty, result.size) ≡ type_told refusal (token_at (view text.now tokens.now kept.now) cursor) }
+// The type in an answer with this refusal: for 7 that of the token at the cursor. So no reader carries it: the entry asks once.
+#[tactic(auto, using(crate::proofs::NameLaws::other_wrong, crate::proofs::TokenLaws::view_text), unfolding(crate::specs::Name::type_told))]
+pub fn type_told(source: &Source, refusal: &Refusal) -> Option<NameType>
+    ensures { type_numbers result ≡ type_told refusal.now.0 (token_at (view source.now.text.now source.now.tokens.now source.now.kept.now) refusal.now.1) }
 {
-    if refusal == number::INVALID_TYPE_AS_ARGUMENT_NAME {
-        return type_of(text_at(text, tokens, kept, cursor));
+    match refusal.wrong() {
+        Wrong::InvalidTypeAsArgumentName => type_of(source.text_at(refusal.at())),
+        _ => None,
     }
-    NO_TYPE
 }

@@ -1,32 +1,35 @@
 use mathlib.Core.List.{[]}
-use Rattle.definitions.proofs.HeadLaws.{refused_parsed}
-use mathlib.Core.Path.{◌≡◌, refl}
+use mathlib.Core.Path.{refl}
 use native.Mathlib.Omega.{arith}
-use lib.ListN.{length, drop}
+use borrow.Author.Rules.{rules}
+use lib.ListN.{length}
 use Rattle.tokens.specs.Token.{view}
-use Rattle.grammar.specs.Result.{plain, bad}
-use Rattle.grammar.specs.FileReader.{parse_constant}
-use Rattle.definitions.specs.Constant.{ConstantGot}
-use Rattle.definitions.proofs.DefinitionLaws.{refused_plain, constant_fits, constant_parsed}
+use Rattle.grammar.specs.FileReader.{constant_rest, parse_constant}
+use Rattle.lists.proofs.At.{handed_on}
+use Rattle.definitions.proofs.HeadLaws.{refused_parsed}
+use Rattle.definitions.proofs.DefinitionLaws.{refused_plain, constant_bad, constant_parsed}
 use Rattle.definitions.proofs.constant.parse_constant.Goals as goal
 
-pub constant_definition-requires : goal.constant_definition-requires
-constant_definition-requires c =
+pub returns-in_err-read_head : goal.returns-in_err-read_head
+unfolding parse_constant
+returns-in_err-read_head c text st ar =
+    refused_parsed (refused_plain (c.in_err-read_head.ensures text c.args.first constant_rest)) (handed_on c.from_residual.result c.from_residual.ensures.1)
+
+pub value_behind-requires : goal.value_behind-requires
+value_behind-requires c = let h = c.in_ok-read_head.ensures [] in record { list = c.requires.list; inside = omega (arith, h.inside) }
+
+pub returns-in_err-value : goal.returns-in_err-value
+returns-in_err-value c text st ar =
     let args = c.args in
-    let all = view [] args.tokens.now args.kept.now in
-    let g : ConstantGot all args.first args.p (length args.kept.now) (parse_constant args.first args.p (drop args.p all)) c.in-Constant.d = rw c.in-Constant.is at (c.read_constant.ensures []) in
-    constant_fits g (omega arith) (omega arith) (omega arith) (omega arith)
+    constant_bad (view text args.source.now.tokens.now args.source.now.kept.now) args.first args.p (length args.source.now.kept.now) (c.in_ok-read_head.ensures text) (c.in_err-value.ensures text) (handed_on c.from_residual-in_err-value.result c.from_residual-in_err-value.ensures.1)
 
-pub returns-in-Constant : goal.returns-in-Constant
-returns-in-Constant c =
-    λ text st ar. let args = c.args in
-    let all = view text args.tokens.now args.kept.now in
-    let g : ConstantGot all args.first args.p (length args.kept.now) (parse_constant args.first args.p (drop args.p all)) c.in-Constant.d = rw c.in-Constant.is at (c.read_constant.ensures text) in
-    constant_parsed c.in-Constant.d g (rw c.constant_definition.ensures refl)
+pub found-requires : goal.found-requires
+found-requires c = let few = c.requires.list.few in let g = c.in_ok-value.ensures [] in omega (arith, g.place)
 
-pub returns-in-Refused : goal.returns-in-Refused
-returns-in-Refused c =
-    λ text st ar. let args = c.args in
-    let all = view text args.tokens.now args.kept.now in
-    let g : parse_constant args.first args.p (drop args.p all) ≡ bad (plain c.in-Refused.c) c.in-Refused.q = rw c.in-Refused.is at (c.read_constant.ensures text) in
-    refused_parsed (refused_plain g) refl
+pub definition-requires : goal.definition-requires
+definition-requires c = let g = c.in_ok-value.ensures [] in search rules
+
+pub returns : goal.returns
+returns c text st ar =
+    let args = c.args in
+    constant_parsed (view text args.source.now.tokens.now args.source.now.kept.now) args.first args.p (length args.source.now.kept.now) (c.in_ok-read_head.ensures text) c.in_ok-value.value (c.in_ok-value.ensures text) (rw (c.definition.ensures, c.found.ensures) refl)

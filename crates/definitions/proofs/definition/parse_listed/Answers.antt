@@ -1,40 +1,28 @@
-use mathlib.Core.Path.{ap, ◌∙◌}
-use Rattle.definitions.specs.Pieces.{list_kind, signature_answer}
-use Rattle.definitions.proofs.HeadLaws.{refused_parsed}
-use Prim.Native.Nat.{◌+◌}
 use mathlib.Core.Path.{refl}
 use native.Mathlib.Omega.{arith}
-use lib.ListN.{length, drop}
-use Rattle.tokens.specs.Token.{view}
-use Rattle.definitions.specs.declared.head.Head.TheVariants as heads
-use Rattle.definitions.specs.Pieces.{Headed, list_rest, list_number}
-use Rattle.definitions.proofs.DefinitionLaws.{refused_plain, signature_parsed, signature_fits}
+use lib.ListN.{length}
+use Rattle.tokens.specs.Source.{all}
+use Rattle.definitions.specs.Pieces.{list_kind, list_rest}
+use Rattle.lists.proofs.At.{handed_on}
+use Rattle.definitions.proofs.HeadLaws.{refused_parsed}
+use Rattle.definitions.proofs.DefinitionLaws.{refused_plain, signature_parsed, signature_refused}
 use Rattle.definitions.proofs.definition.parse_listed.Goals as goal
 
-pub list_behind-r-requires : goal.list_behind-r-requires
-list_behind-r-requires c =
+pub returns-in_err-read_head : goal.returns-in_err-read_head
+returns-in_err-read_head c st =
+    let h = rw c.keyword.ensures at (c.in_err-read_head.ensures c.args.source.now.text.now) in
+    refused_parsed (refused_plain (h c.args.first (list_rest c.args.listed))) (handed_on c.from_residual.result c.from_residual.ensures.1)
+
+pub list_behind-requires : goal.list_behind-requires
+list_behind-requires c =
+    let h = c.in_ok-read_head.ensures c.args.source.now.text.now in record { list = c.requires.list; inside = omega (arith, h.inside) }
+
+pub returns-in_err-s : goal.returns-in_err-s
+returns-in_err-s c st =
     let args = c.args in
-    let all = view args.text.now args.tokens.now args.kept.now in
-    let h : Headed all (list_kind args.listed) args.p (length args.kept.now) heads.Named = rw c.in-Named.is at (rw c.listed_kind.ensures at (c.read_head.ensures args.text.now)) in
-    record { list = c.requires.list; inside = omega (arith, h.2) }
+    signature_refused (all args.source.now) (list_kind args.listed) args.first args.p (list_rest args.listed) (length args.source.now.kept.now) (rw c.keyword.ensures at (c.in_ok-read_head.ensures args.source.now.text.now)) c.in_err-s.ensures (handed_on c.from_residual-in_err-s.result c.from_residual-in_err-s.ensures.1)
 
-pub signed-requires : goal.signed-requires
-signed-requires c =
+pub returns : goal.returns
+returns c st =
     let args = c.args in
-    let all = view args.text.now args.tokens.now args.kept.now in
-    let h : Headed all (list_kind args.listed) args.p (length args.kept.now) heads.Named = rw c.in-Named.is at (rw c.listed_kind.ensures at (c.read_head.ensures args.text.now)) in
-    signature_fits (list_number args.listed) (args.p + 2) (length args.kept.now) (list_rest args.listed (args.p + 2) (drop (args.p + 2) all)) _ _ c.list_behind-r.result c.list_behind-r.ensures (omega arith) (omega (arith, h.2)) (omega arith) (omega arith) (omega arith)
-
-pub returns-in-Wrong : goal.returns-in-Wrong
-returns-in-Wrong c =
-    λ st. let args = c.args in
-    let all = view args.text.now args.tokens.now args.kept.now in
-    let h : Headed all (list_kind args.listed) args.p (length args.kept.now) (heads.Wrong c.in-Wrong.q) = rw c.in-Wrong.is at (rw c.listed_kind.ensures at (c.read_head.ensures args.text.now)) in
-    refused_parsed (refused_plain (h args.first (list_rest args.listed))) refl
-
-pub returns-in-Named : goal.returns-in-Named
-returns-in-Named c =
-    λ st. let args = c.args in
-    let all = view args.text.now args.tokens.now args.kept.now in
-    let h : Headed all (list_kind args.listed) args.p (length args.kept.now) heads.Named = rw c.in-Named.is at (rw c.listed_kind.ensures at (c.read_head.ensures args.text.now)) in
-    signature_parsed all (list_kind args.listed) args.first args.p (list_rest args.listed) (length args.kept.now) h (list_number args.listed) args.i args.a c.list_behind-r.result c.list_behind-r.ensures (c.signed.ensures ∙ ap (λ n. signature_answer n args.first (args.p + 1) args.i args.a c.list_behind-r.result) c.listed_number.ensures)
+    signature_parsed (all args.source.now) (list_kind args.listed) args.first args.p (list_rest args.listed) (length args.source.now.kept.now) (rw c.keyword.ensures at (c.in_ok-read_head.ensures args.source.now.text.now)) c.in_ok-s.s c.in_ok-s.ensures (rw (c.signed.ensures, c.into.ensures) refl)

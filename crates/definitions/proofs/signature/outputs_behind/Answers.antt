@@ -1,53 +1,34 @@
 use Prim.Native.Nat.{◌+◌}
 use mathlib.Core.Path.{refl, sym, ◌∙◌}
-use mathlib.Core.Bool.{false}
-use native.Mathlib.Omega.{arith}
-use lib.ListN.{length, drop}
+use lib.ListN.{length}
 use Rattle.tokens.specs.Token.{view}
-use Rattle.grammar.specs.Typed.{typed_argument}
-use Rattle.grammar.specs.FileReader.{parse_args}
-use Rattle.lists.proofs.At.{kind_is}
+use Rattle.lists.proofs.At.{kind_is, handed_on}
 use Rattle.definitions.proofs.DefinitionLaws.{refused_plain, listed, unlisted, untyped, unreturning, outputs_read, outputs_refused}
 use Rattle.definitions.proofs.signature.outputs_behind.Goals as goal
 
-pub returns-then-ty-eq0 : goal.returns-then-ty-eq0
-returns-then-ty-eq0 c =
+pub returns-in_err-ty : goal.returns-in_err-ty
+returns-in_err-ty c inputs =
     let args = c.args in
-    let all = view args.text.now args.tokens.now args.kept.now in
-    λ inputs. refused_plain (untyped all args.p (length args.kept.now) inputs (c.function_type-ty.ensures args.text.now) c.if-ty-eq0.true)
+    let all = view args.source.now.text.now args.source.now.tokens.now args.source.now.kept.now in
+    rw (handed_on c.from_residual.result c.from_residual.ensures.1) (refused_plain (untyped all args.p (length args.source.now.kept.now) inputs (c.in_err-ty.ensures args.source.now.text.now)))
 
 pub returns-then-kind_at-ne-RETURNS : goal.returns-then-kind_at-ne-RETURNS
-returns-then-kind_at-ne-RETURNS c =
+returns-then-kind_at-ne-RETURNS c inputs =
     let args = c.args in
-    let all = view args.text.now args.tokens.now args.kept.now in
-    let k = kind_is args.text.now (args.p + 1) c.kind_at.ensures refl in
-    λ inputs. refused_plain (unreturning all args.p (length args.kept.now) inputs _ (c.function_type-ty.ensures args.text.now) c.if-ty-eq0.false (λ e. c.if-kind_at-ne-RETURNS.true (sym k ∙ e)))
+    let all = view args.source.now.text.now args.source.now.tokens.now args.source.now.kept.now in
+    let k = kind_is args.source.now.text.now (args.p + 1) c.kind_at.ensures refl in
+    rw c.new.ensures (refused_plain (unreturning all args.p (length args.source.now.kept.now) inputs c.in_ok-ty.ty (c.in_ok-ty.ensures args.source.now.text.now).is (λ e. c.if-kind_at-ne-RETURNS.true (sym k ∙ e))))
 
-pub parse_args-requires : goal.parse_args-requires
-parse_args-requires c = record {
-  place = record { list = c.requires.place.list; inside = omega arith };
-  n_le_most_tokens = omega arith;
-}
-
-pub overflow_sub-result : goal.overflow_sub-result
-overflow_sub-result c =
+pub returns-in_err-list : goal.returns-in_err-list
+returns-in_err-list c inputs =
     let args = c.args in
-    let all = view args.text.now args.tokens.now args.kept.now in
-    let l = listed args.n (args.p + 2) (length args.kept.now) (parse_args (typed_argument false) (args.p + 2) (drop (args.p + 2) all)) c.parse_args.ensures c.in-Done.is in
-    omega (arith, l.count)
+    let all = view args.source.now.text.now args.source.now.tokens.now args.source.now.kept.now in
+    let k = kind_is args.source.now.text.now (args.p + 1) c.kind_at.ensures refl in
+    rw (handed_on c.from_residual-in_err-list.result c.from_residual-in_err-list.ensures.1) (outputs_refused all args.p (length args.source.now.kept.now) inputs c.in_ok-ty.ty (c.in_ok-ty.ensures args.source.now.text.now).is (k ∙ c.if-kind_at-ne-RETURNS.false) (unlisted _ c.in_err-list.ensures))
 
-pub returns-in-Done : goal.returns-in-Done
-returns-in-Done c =
+pub returns : goal.returns
+returns c inputs =
     let args = c.args in
-    let all = view args.text.now args.tokens.now args.kept.now in
-    let k = kind_is args.text.now (args.p + 1) c.kind_at.ensures refl in
-    let l = listed args.n (args.p + 2) (length args.kept.now) (parse_args (typed_argument false) (args.p + 2) (drop (args.p + 2) all)) c.parse_args.ensures c.in-Done.is in
-    λ inputs. outputs_read all args.p (length args.kept.now) inputs _ (c.function_type-ty.ensures args.text.now) c.if-ty-eq0.false (k ∙ c.if-kind_at-ne-RETURNS.false) l
-
-pub returns-in-Refused : goal.returns-in-Refused
-returns-in-Refused c =
-    let args = c.args in
-    let all = view args.text.now args.tokens.now args.kept.now in
-    let k = kind_is args.text.now (args.p + 1) c.kind_at.ensures refl in
-    let l = unlisted args.n (args.p + 2) (length args.kept.now) (parse_args (typed_argument false) (args.p + 2) (drop (args.p + 2) all)) c.parse_args.ensures c.in-Refused.is in
-    λ inputs. outputs_refused all args.p (length args.kept.now) inputs _ (c.function_type-ty.ensures args.text.now) c.if-ty-eq0.false (k ∙ c.if-kind_at-ne-RETURNS.false) l
+    let all = view args.source.now.text.now args.source.now.tokens.now args.source.now.kept.now in
+    let k = kind_is args.source.now.text.now (args.p + 1) c.kind_at.ensures refl in
+    outputs_read all args.p (length args.source.now.kept.now) inputs c.in_ok-ty.ty (c.in_ok-ty.ensures args.source.now.text.now).is (k ∙ c.if-kind_at-ne-RETURNS.false) (listed _ c.in_ok-list.ensures)

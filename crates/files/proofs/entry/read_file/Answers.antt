@@ -1,46 +1,36 @@
--- `read_file`: each answer of the door has its law. Assumes nothing.
+-- `read_file`: each way out has its law. Assumes nothing.
+-- `kept_part` is asked in three goals, each with facts of its own: it is the one law for them, and another would be given the same.
+use mathlib.Core.Path.{refl}
+use Rattle.lists.proofs.At.{handed_on}
 use Rattle.tokens.proofs.PlaceLaws.{kept_part}
-use Rattle.statements.proofs.EntryLaws.{mode_known, mode_unknown}
-use Rattle.files.proofs.EntryLaws.{called_36, called_30, called_35, called_31, called_ready}
+use Rattle.statements.proofs.EntryLaws.{mode_known}
+use Rattle.files.proofs.EntryLaws.{call_unknown, call_refused, call_read}
 use Rattle.files.proofs.entry.read_file.Goals as goal
 
-pub slice_bounds-read_kept-end : goal.slice_bounds-read_kept-end
-slice_bounds-read_kept-end c =
-    let a = c.args in
-    (kept_part a.text.now a.tokens.now 0 a.kept.now c.prepare.ensures c.in-Ready.is).1
+pub returns-in_err-mode : goal.returns-in_err-mode
+returns-in_err-mode c = rw (handed_on c.from_residual.result c.from_residual.ensures.1) (call_unknown c.in_err-mode.ensures)
 
-pub returns-then-mode-gt-MODE_STRICT : goal.returns-then-mode-gt-MODE_STRICT
-returns-then-mode-gt-MODE_STRICT c =
+pub returns-in_err-count : goal.returns-in_err-count
+returns-in_err-count c =
+    rw (handed_on c.from_residual-in_err-count.result c.from_residual-in_err-count.ensures.1)
+    (call_refused _ (mode_known c.in_ok-mode.mode c.in_ok-mode.ensures) c.in_err-count.ensures)
+
+pub slice_bounds-source-end : goal.slice_bounds-source-end
+slice_bounds-source-end c =
     let a = c.args in
-    called_36 (mode_unknown a.mode c.if-mode-gt-MODE_STRICT.true)
+    (kept_part a.text.now a.tokens.now 0 a.kept.now c.in_ok-count.ensures refl).1
+
+pub invariant_of-source : goal.invariant_of-source
+invariant_of-source c =
+    let a = c.args in
+    let k = kept_part a.text.now a.tokens.now 0 a.kept.now c.in_ok-count.ensures refl in
+    record { numbered = rw k.0 k.2.list.numbered }
 
 pub read_kept-requires : goal.read_kept-requires
 read_kept-requires c =
     let a = c.args in
-    let k = kept_part a.text.now a.tokens.now 0 a.kept.now c.prepare.ensures c.in-Ready.is in
+    let k = kept_part a.text.now a.tokens.now 0 a.kept.now c.in_ok-count.ensures refl in
     rw k.0 k.2.list
 
-pub returns-in-NotWellFormed : goal.returns-in-NotWellFormed
-returns-in-NotWellFormed c =
-    let a = c.args in
-    let d = c.prepare in
-    called_30 a.mode (mode_known a.mode c.if-mode-gt-MODE_STRICT.false) a.text.now a.tokens.now a.kept.now d.new.kept d.result d.ensures a.definitions.now a.statements.now a.arguments.now c.in-NotWellFormed.at c.in-NotWellFormed.is
-
-pub returns-in-KeptTooShort : goal.returns-in-KeptTooShort
-returns-in-KeptTooShort c =
-    let a = c.args in
-    let d = c.prepare in
-    called_35 a.mode (mode_known a.mode c.if-mode-gt-MODE_STRICT.false) a.text.now a.tokens.now a.kept.now d.new.kept d.result d.ensures a.definitions.now a.statements.now a.arguments.now c.in-KeptTooShort.count c.in-KeptTooShort.is
-
-pub returns-in-StartOutside : goal.returns-in-StartOutside
-returns-in-StartOutside c =
-    let a = c.args in
-    let d = c.prepare in
-    called_31 a.mode (mode_known a.mode c.if-mode-gt-MODE_STRICT.false) a.text.now a.tokens.now a.kept.now d.new.kept d.result d.ensures a.definitions.now a.statements.now a.arguments.now c.in-StartOutside.at c.in-StartOutside.is
-
-pub returns-in-Ready : goal.returns-in-Ready
-returns-in-Ready c =
-    let a = c.args in
-    let d = c.prepare in
-    let f = c.read_kept in
-    called_ready a.mode (mode_known a.mode c.if-mode-gt-MODE_STRICT.false) a.text.now a.tokens.now a.kept.now d.new.kept d.result d.ensures c.in-Ready.count c.in-Ready.is a.definitions.now a.statements.now a.arguments.now f.result f.new.definitions f.new.statements f.new.arguments f.ensures
+pub returns : goal.returns
+returns c = call_read (mode_known c.in_ok-mode.mode c.in_ok-mode.ensures) c.in_ok-count.ensures (rw (c.is_strict.ensures, c.in_ok-mode.ensures) at c.read_kept.ensures)

@@ -1,71 +1,42 @@
 -- `read_kept`: each way out has its law. Assumes nothing.
+-- Each begins with the same three facts, that the tables kept their lengths: a law over them would be given the same three.
+use borrow.Author.Rules.{rules}
 use mathlib.Core.Bool.{true}
-use mathlib.Core.List.{[]}
-use mathlib.Core.Path.{sym}
-use Rattle.tokens.specs.Token.{view, positions}
-use Rattle.grammar.specs.FileReader.{parse, file_at}
+use Rattle.tokens.specs.Source.{all}
+use Rattle.grammar.specs.FileReader.{file_at}
 use Rattle.grammar.specs.Rules.{asks}
 use Rattle.grammar.proofs.Numbers.{file_ours}
 use Rattle.files.proofs.EntryLaws.{taken_32, taken_33, taken_34, taken_refused, taken_read}
 use Rattle.files.proofs.entry.read_kept.Goals as goal
 
-pub returns-then-definitions-d : goal.returns-then-definitions-d
+pub returns-then-definitions-read : goal.returns-then-definitions-read
 unfolding file_at
-returns-then-definitions-d c =
-    let a = c.args in
+returns-then-definitions-read c =
     let f = c.read_definitions in
-    let z = c.clear_all-then-definitions-d in
-    let q = c.in-Done in
-    taken_32 (view a.text.now a.tokens.now a.kept.now) (positions a.tokens.now a.kept.now) a.definitions.now a.statements.now a.arguments.now
-    f.new.definitions f.new.statements f.new.arguments f.auto.definitions f.auto.statements f.auto.arguments
-    z.new.definitions z.new.statements z.new.arguments z.ensures
-    (parse (asks a.strict) true [] 0 (view a.text.now a.tokens.now a.kept.now)) q.p q.d q.i q.a f.result f.ensures q.is c.if-definitions-d.true
+    taken_32 f.auto.definitions f.auto.statements f.auto.arguments c.clear_all-then-definitions-read.ensures f.ensures c.in-Ok.is c.if-definitions-read.true
 
-pub returns-then-statements-i : goal.returns-then-statements-i
+pub returns-then-statements-read : goal.returns-then-statements-read
 unfolding file_at
-returns-then-statements-i c =
-    let a = c.args in
+returns-then-statements-read c =
     let f = c.read_definitions in
-    let z = c.clear_all-then-statements-i in
-    let q = c.in-Done in
-    taken_33 (view a.text.now a.tokens.now a.kept.now) (positions a.tokens.now a.kept.now) a.definitions.now a.statements.now a.arguments.now
-    f.new.definitions f.new.statements f.new.arguments f.auto.definitions f.auto.statements f.auto.arguments
-    z.new.definitions z.new.statements z.new.arguments z.ensures
-    (parse (asks a.strict) true [] 0 (view a.text.now a.tokens.now a.kept.now)) q.p q.d q.i q.a f.result f.ensures q.is c.if-definitions-d.false c.if-statements-i.true
+    taken_33 f.auto.definitions f.auto.statements f.auto.arguments c.clear_all-then-statements-read.ensures f.ensures c.in-Ok.is c.if-definitions-read.false c.if-statements-read.true
 
-pub returns-then-arguments-a : goal.returns-then-arguments-a
+pub returns-then-arguments-read : goal.returns-then-arguments-read
 unfolding file_at
-returns-then-arguments-a c =
-    let a = c.args in
+returns-then-arguments-read c =
     let f = c.read_definitions in
-    let z = c.clear_all-then-arguments-a in
-    let q = c.in-Done in
-    taken_34 (view a.text.now a.tokens.now a.kept.now) (positions a.tokens.now a.kept.now) a.definitions.now a.statements.now a.arguments.now
-    f.new.definitions f.new.statements f.new.arguments f.auto.definitions f.auto.statements f.auto.arguments
-    z.new.definitions z.new.statements z.new.arguments z.ensures
-    (parse (asks a.strict) true [] 0 (view a.text.now a.tokens.now a.kept.now)) q.p q.d q.i q.a f.result f.ensures q.is c.if-definitions-d.false c.if-statements-i.false c.if-arguments-a.true
+    taken_34 f.auto.definitions f.auto.statements f.auto.arguments c.clear_all-then-arguments-read.ensures f.ensures c.in-Ok.is c.if-definitions-read.false c.if-statements-read.false c.if-arguments-read.true
 
-pub returns-in-Refused : goal.returns-in-Refused
+pub returns-in-Err : goal.returns-in-Err
 unfolding file_at
-returns-in-Refused c =
-    let a = c.args in
+returns-in-Err c =
     let f = c.read_definitions in
-    let z = c.clear_all in
-    let q = c.in-Refused in
-    taken_refused (view a.text.now a.tokens.now a.kept.now) (positions a.tokens.now a.kept.now) a.definitions.now a.statements.now a.arguments.now
-    f.new.definitions f.new.statements f.new.arguments f.auto.definitions f.auto.statements f.auto.arguments
-    z.new.definitions z.new.statements z.new.arguments z.ensures
-    (parse (asks a.strict) true [] 0 (view a.text.now a.tokens.now a.kept.now)) q.c q.q c.type_told-t.result.ty c.type_told-t.result.size f.result f.ensures q.is (sym c.type_told-t.ensures)
-    (file_ours (asks a.strict) true (view a.text.now a.tokens.now a.kept.now) q.c q.q)
+    let q = c.in-Err.refusal in
+    taken_refused f.auto.definitions f.auto.statements f.auto.arguments c.clear_all.ensures f.ensures c.in-Err.is (search rules)
+    (file_ours (asks c.args.strict) true (all c.args.source.now) q.0 q.1)
 
-pub returns-else-arguments-a : goal.returns-else-arguments-a
+pub returns-else-arguments-read : goal.returns-else-arguments-read
 unfolding file_at
-returns-else-arguments-a c =
-    let a = c.args in
+returns-else-arguments-read c =
     let f = c.read_definitions in
-    let z = c.clear_rest in
-    let q = c.in-Done in
-    taken_read (view a.text.now a.tokens.now a.kept.now) (positions a.tokens.now a.kept.now) a.definitions.now a.statements.now a.arguments.now
-    f.new.definitions f.new.statements f.new.arguments f.auto.definitions f.auto.statements f.auto.arguments
-    z.new.definitions z.new.statements z.new.arguments
-    (parse (asks a.strict) true [] 0 (view a.text.now a.tokens.now a.kept.now)) q.p q.d q.i q.a f.result f.ensures q.is c.if-definitions-d.false c.if-statements-i.false c.if-arguments-a.false z.ensures
+    taken_read f.auto.definitions f.auto.statements f.auto.arguments f.ensures c.in-Ok.is c.if-definitions-read.false c.if-statements-read.false c.if-arguments-read.false c.clear_rest.ensures

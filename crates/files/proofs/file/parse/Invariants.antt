@@ -1,13 +1,13 @@
 use Prim.Native.Nat.{◌-◌}
 use lib.ListN.{length}
+use Rattle.names.specs.Remembered.{seen}
 use Rattle.files.proofs.FileLaws.{Loop}
 use Rattle.grammar.specs.Rules.{asks}
 use Rattle.files.proofs.file.parse.Given as goal
 
-abbrev pub invariant-loop-strict : goal.invariant-loop-strict
-invariant-loop-strict l =
-    Loop (asks l.strict) l.text l.tokens l.kept l.initial.definitions l.initial.statements l.initial.arguments l.initial.heads l.initial.next l.initial.places l.definitions l.statements l.arguments l.heads l.next l.places l.p l.d l.i l.a l.m
+abbrev pub invariant-loop-read : goal.invariant-loop-read
+invariant-loop-read l =
+    Loop (asks l.strict) l.source.text.now l.source.tokens.now l.source.kept.now l.initial.definitions l.initial.statements l.initial.arguments l.definitions l.statements l.arguments (seen l.initial.names).room (seen l.names) l.read.cursor l.read.definitions l.read.statements l.read.arguments
 
-abbrev pub decreases-loop-strict : goal.decreases-loop-strict
-decreases-loop-strict l =
-    length l.kept - l.p
+abbrev pub decreases-loop-read : goal.decreases-loop-read
+decreases-loop-read l = length l.source.kept.now - l.read.cursor

@@ -1,6 +1,12 @@
--- `lexer::class::closes` meets its contract. Assumes nothing.
+-- `closes`. Assumes nothing.
+use Prim.Native.Char.{code}
+use borrow.Author.Tests.{eq-eqb, ne_eqb}
+use lib.ListN.{get_or}
 use Rattle.lexer.proofs.ClassLaws.{closes_is}
 use Rattle.lexer.proofs.class.closes.Goals as goal
 
-pub returns : goal.returns
-returns c = closes_is c.args.text.now c.args.i c.byte_at.ensures c.byte_at-2.ensures
+pub returns-then-bytes-i-eq42 : goal.returns-then-bytes-i-eq42
+returns-then-bytes-i-eq42 c = let b = get_or c.args.bytes.now c.args.i 0 in rw (closes_is c.args.bytes.now c.args.i, eq-eqb b (code "*") c.if-bytes-i-eq42.true, c.byte_at.ensures)
+
+pub returns-else-bytes-i-eq42 : goal.returns-else-bytes-i-eq42
+returns-else-bytes-i-eq42 c = let b = get_or c.args.bytes.now c.args.i 0 in rw (closes_is c.args.bytes.now c.args.i, ne_eqb b (code "*") c.if-bytes-i-eq42.false)

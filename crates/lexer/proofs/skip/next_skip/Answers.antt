@@ -1,31 +1,23 @@
--- `lexer::skip::next_skip` meets its contract. Assumes nothing.
-use mathlib.Core.Path.{sym, ap, ◌∙◌}
-use native.Mathlib.Omega.{arith}
-use Rattle.lexemes.proofs.WalkLaws.{lexeme_in_at, step_is, stop_is}
+-- `next_skip`. Assumes nothing.
+use mathlib.Core.Path.{ap, ◌∙◌}
+use Rattle.std.proofs.lemmas.Result.{err_from_is_err_and}
 use Rattle.lexer.specs.Counts.{skip_of}
+use Rattle.lexer.proofs.TokenLaws.{stop_found, found_in, step_found}
 use Rattle.lexer.proofs.skip.next_skip.Goals as goal
 
-pub overflow_add-s : goal.overflow_add-s
-overflow_add-s c =
-    let at = c.args in
-    let e = sym c.in-Is.is ∙ c.lexeme_at-found.ensures in
-    let f = lexeme_in_at at.c at.text.now at.s c.in-Is.kind c.in-Is.n c.requires e in
-    omega arith
-
-pub kind_skip-requires : goal.kind_skip-requires
-kind_skip-requires c =
-    let at = c.args in
-    let e = sym c.in-Is.is ∙ c.lexeme_at-found.ensures in
-    let f = lexeme_in_at at.c at.text.now at.s c.in-Is.kind c.in-Is.n c.requires e in
-    (omega arith, omega arith)
-
-pub returns-in-Not : goal.returns-in-Not
+pub returns-in_err-found : goal.returns-in_err-found
 unfolding skip_of
-returns-in-Not c =
+returns-in_err-found c =
     let at = c.args in
-    ap (skip_of at.c) (stop_is at.c at.text.now at.s c.in-Not.r (sym c.in-Not.is ∙ c.lexeme_at-found.ensures))
+    let p = err_from_is_err_and c.from_residual.result c.from_residual.ensures.1 in
+    rw (p.1, p.2) (ap (skip_of at.c) (stop_found at.c at.s at.bytes.now c.in_err-found.field-0.0 c.in_err-found.ensures))
 
-pub returns-in-Is : goal.returns-in-Is
-returns-in-Is c =
+pub split_at-requires : goal.split_at-requires
+split_at-requires c = (found_in c.args.c c.args.s c.args.bytes.now c.in_ok-found.found c.in_ok-found.ensures c.requires.0).1
+
+pub returns : goal.returns
+returns c =
     let at = c.args in
-    rw (← step_is at.c at.text.now at.s c.in-Is.kind c.in-Is.n (sym c.in-Is.is ∙ c.lexeme_at-found.ensures)) c.kind_skip.ensures
+    let split = c.split_at in
+    c.kind_skip.ensures
+    ∙ ap (skip_of at.c) (step_found at.c at.s at.bytes.now c.in_ok-found.found c.in_ok-found.ensures split.result.0.now split.result.1.now split.ensures.front split.ensures.front_len split.ensures.back)

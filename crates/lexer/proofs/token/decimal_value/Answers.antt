@@ -1,30 +1,25 @@
--- `lexer::token::decimal_value` meets its contract. The loop's invariant: the digits that are left, read after the number so far, write the whole number. Assumes nothing.
+-- `decimal_value`. Assumes nothing.
 use Prim.Native.Nat.{◌+◌, ◌*◌}
-use mathlib.Core.Path.{refl, sym, ◌∙◌}
+use mathlib.Core.Path.{sym, ◌∙◌}
 use native.Mathlib.Omega.{arith}
 use lib.ListN.{drop}
 use Rattle.lexer.proofs.TokenLaws.{decimal_step, decimal_end, decimal_grows}
 use Rattle.lexer.proofs.token.decimal_value.Goals as goal
 
-pub loop-i-init : goal.loop-i-init
-loop-i-init c = (omega arith, omega arith, refl)
-
-pub overflow_add-v : goal.overflow_add-v
-overflow_add-v c = omega (arith, c.worth.ensures.upper_bound)
-
-pub returns-then-v-ge-ABOVE : goal.returns-then-v-ge-ABOVE
-returns-then-v-ge-ABOVE c =
-    let d = c.args.digits.now in
-    let e = decimal_step c.loop-i.v d c.loop-i.i c.worth.result (omega arith) c.worth.ensures.value in
-    let g = decimal_grows (c.loop-i.v * 10 + c.worth.result) (drop (c.loop-i.i + 1) d) in
+pub returns-then-v-gt-MOST : goal.returns-then-v-gt-MOST
+returns-then-v-gt-MOST c =
+    let ds = c.args.digits.now in
+    let i = c.loop-digit.digit-index in
+    let more = decimal_step c.loop-digit.v ds i c.worth.result (omega arith) c.worth.ensures.value in
+    let grows = decimal_grows (c.loop-digit.v * 10 + c.worth.result) (drop (i + 1) ds) in
     omega arith
 
-pub loop-i-preserved : goal.loop-i-preserved
-loop-i-preserved c =
-    let e = decimal_step c.loop-i.v c.args.digits.now c.loop-i.i c.worth.result (omega arith) c.worth.ensures.value in
-    (omega arith, omega arith, sym e ∙ c.loop-i.invariant.2)
+pub loop-digit-preserved : goal.loop-digit-preserved
+loop-digit-preserved c =
+    let more = decimal_step c.loop-digit.v c.args.digits.now c.loop-digit.digit-index c.worth.result (omega arith) c.worth.ensures.value in
+    (omega arith, sym more ∙ c.loop-digit.invariant.1)
 
 pub returns : goal.returns
 returns c =
-    let d = decimal_end c.loop-i.v c.args.digits.now c.loop-i.i (omega arith) in
-    omega arith
+    let end = decimal_end c.loop-digit.v c.args.digits.now c.loop-digit.digit-index (omega arith) in
+    (omega arith, omega arith)

@@ -1,30 +1,26 @@
--- `lexer::token::next_token` meets its contract. Assumes nothing.
-use mathlib.Core.Path.{sym, ◌∙◌}
+-- `next_token`. Assumes nothing.
+use mathlib.Core.Path.{◌∙◌}
 use native.Mathlib.Omega.{arith}
-use Rattle.lexemes.proofs.WalkLaws.{lexeme_in_at, step_is, stop_is}
-use borrow.Author.Rules.{rules}
+use Rattle.std.proofs.lemmas.Result.{err_from_is_err_and}
+use Rattle.lexer.proofs.TokenLaws.{stop_found, found_in, step_found}
 use Rattle.lexer.proofs.token.next_token.Goals as goal
 
-pub overflow_add-s : goal.overflow_add-s
-overflow_add-s c =
+pub returns-in_err-found : goal.returns-in_err-found
+returns-in_err-found c =
     let at = c.args in
-    let e = sym c.in-Is.is ∙ c.lexeme_at-found.ensures in
-    let f = lexeme_in_at at.c at.text.now at.s c.in-Is.kind c.in-Is.n c.requires.0 e in
-    omega arith
+    let p = err_from_is_err_and c.from_residual.result c.from_residual.ensures.1 in
+    rw (p.1, p.2) (stop_found at.c at.s at.bytes.now c.in_err-found.field-0.0 c.in_err-found.ensures)
 
-pub kind_step-requires : goal.kind_step-requires
-kind_step-requires c =
-    let at = c.args in
-    let e = sym c.in-Is.is ∙ c.lexeme_at-found.ensures in
-    let f = lexeme_in_at at.c at.text.now at.s c.in-Is.kind c.in-Is.n c.requires.0 e in
-    (omega arith, omega arith, omega arith, search rules)
+pub split_at-requires : goal.split_at-requires
+split_at-requires c = (found_in c.args.c c.args.s c.args.bytes.now c.in_ok-found.found c.in_ok-found.ensures c.requires.0).1
 
-pub returns-in-Not : goal.returns-in-Not
-returns-in-Not c =
-    let at = c.args in
-    stop_is at.c at.text.now at.s c.in-Not.r (sym c.in-Not.is ∙ c.lexeme_at-found.ensures)
+pub kind_token-requires : goal.kind_token-requires
+kind_token-requires c =
+    let h = found_in c.args.c c.args.s c.args.bytes.now c.in_ok-found.found c.in_ok-found.ensures c.requires.0 in
+    (omega (arith, h.0), omega (arith, h.1))
 
-pub returns-in-Is : goal.returns-in-Is
-returns-in-Is c =
+pub returns : goal.returns
+returns c =
     let at = c.args in
-    rw (← step_is at.c at.text.now at.s c.in-Is.kind c.in-Is.n (sym c.in-Is.is ∙ c.lexeme_at-found.ensures)) c.kind_step.ensures
+    let split = c.split_at in
+    c.kind_token.ensures ∙ step_found at.c at.s at.bytes.now c.in_ok-found.found c.in_ok-found.ensures split.result.0.now split.result.1.now split.ensures.front split.ensures.front_len split.ensures.back

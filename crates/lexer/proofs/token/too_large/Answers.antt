@@ -1,19 +1,20 @@
--- `lexer::token::too_large` meets its contract. Assumes nothing.
+-- `too_large`. Assumes nothing.
+use mathlib.Core.Path.{◌∙◌}
 use native.Mathlib.Omega.{arith}
-use Rattle.lexer.proofs.TokenLaws.{large_num, large_literal, large_none}
+use borrow.Author.Tests.{ne_eqb}
+use Rattle.tokens.specs.Kind.{Literal, Num}
+use Rattle.lexemes.specs.Texts.{decimal, too_large}
+use Rattle.lexer.proofs.TokenLaws.{none_large}
 use Rattle.lexer.proofs.token.too_large.Goals as goal
 
-pub returns-then-kind-eq-NUM : goal.returns-then-kind-eq-NUM
-returns-then-kind-eq-NUM c =
-    let at = c.args in
-    large_num at.text.now at.s at.e at.kind c.decimal_value.result c.if-kind-eq-NUM.true c.decimal_value.ensures
+pub returns-in-42 : goal.returns-in-42
+unfolding too_large
+returns-in-42 c = none_large c.decimal_value.result c.is_none.result (decimal c.args.lexeme.now) c.decimal_value.ensures c.is_none.ensures ∙ rw c.in-42.is
 
-pub returns-then-kind-eq-LITERAL : goal.returns-then-kind-eq-LITERAL
-returns-then-kind-eq-LITERAL c =
-    let at = c.args in
-    large_literal at.text.now at.s at.e at.kind c.if-kind-eq-NUM.false c.if-kind-eq-LITERAL.true (omega arith) (omega arith)
+pub returns-in-40 : goal.returns-in-40
+unfolding too_large
+returns-in-40 c = rw c.in-40.is
 
-pub returns : goal.returns
-returns c =
-    let at = c.args in
-    large_none at.text.now at.s at.e at.kind c.if-kind-eq-NUM.false c.if-kind-eq-LITERAL.false
+pub returns-in_default : goal.returns-in_default
+unfolding too_large
+returns-in_default c = rw (ne_eqb c.args.kind Num (omega arith), ne_eqb c.args.kind Literal (omega arith))

@@ -1,23 +1,26 @@
--- `lexer::word::word_of` meets its contract. Assumes nothing.
+-- `word_of`. Assumes nothing.
 use Prim.Native.Char.{code}
-use mathlib.Core.Path.{sym, ◌∙◌}
+use mathlib.Core.Path.{◌∙◌}
 use borrow.Author.Tests.{eq-eqb, ne_eqb}
 use Rattle.tokens.specs.Byte.{bytes}
 use Rattle.lexemes.specs.Words.{word_of}
 use Rattle.lexer.proofs.word.word_of.Goals as goal
-
-pub returns-then-in_code : goal.returns-then-in_code
-unfolding word_of
-returns-then-in_code c = c.plain_word.ensures ∙ rw (sym c.in_code.ensures ∙ c.if-in_code.true)
+use Rattle.lexer.proofs.word.word_of.Goals.{else-next-eq40-via-then-next-eq40+else-begins_with, else-next-eq40-via-else-next-eq40}
 
 pub returns-then-begins_with : goal.returns-then-begins_with
 unfolding word_of bytes
-returns-then-begins_with c = c.plain_word-then-begins_with.ensures ∙ rw (sym c.in_code.ensures ∙ c.if-in_code.false, ne_eqb c.args.next (code ":") c.if-next-eq58.false, eq-eqb c.args.next (code "(") c.if-next-eq40.true, sym c.begins_with.ensures ∙ c.if-begins_with.true)
-
-pub returns-then-next-eq40 : goal.returns-then-next-eq40
-unfolding word_of bytes
-returns-then-next-eq40 c = c.by_place.ensures ∙ rw (sym c.in_code.ensures ∙ c.if-in_code.false, ne_eqb c.args.next (code ":") c.if-next-eq58.false, eq-eqb c.args.next (code "(") c.if-next-eq40.true, sym c.begins_with.ensures ∙ c.if-begins_with.false)
+returns-then-begins_with c =
+    let next = c.args.next in
+    c.plain_word-then-begins_with.ensures
+    ∙ rw (← c.if-in_code.ensures, ne_eqb next (code ":") c.if-next-eq58.false, eq-eqb next (code "(") c.if-next-eq40.true, ← c.if-begins_with.ensures)
 
 pub returns : goal.returns
-unfolding word_of
-returns c = c.by_place-2.ensures ∙ rw (sym c.in_code.ensures ∙ c.if-in_code.false, ne_eqb c.args.next (code ":") c.if-next-eq58.false, ne_eqb c.args.next (code "(") c.if-next-eq40.false)
+unfolding word_of bytes
+returns c =
+    let next = c.args.next in
+    elim c.else-next-eq40.branch [
+      | else-next-eq40-via-then-next-eq40+else-begins_with w ↦
+          c.by_place.ensures
+          ∙ rw (← c.if-in_code.ensures, ne_eqb next (code ":") c.if-next-eq58.false, eq-eqb next (code "(") w.if-next-eq40.true, ← w.if-begins_with.ensures)
+      | else-next-eq40-via-else-next-eq40 w ↦ c.by_place.ensures ∙ rw (← c.if-in_code.ensures, ne_eqb next (code ":") c.if-next-eq58.false, ne_eqb next (code "(") w.if-next-eq40.false)
+    ]

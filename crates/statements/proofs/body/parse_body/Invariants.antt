@@ -1,10 +1,10 @@
 use Prim.Native.Nat.{◌-◌}
-use lib.ListN.{length}
+use Rattle.tokens.specs.Source.{count}
 use Rattle.statements.proofs.BodyLaws.{BodyWalk}
 use Rattle.statements.proofs.body.parse_body.Given as goal
 
-abbrev pub invariant-loop-c : goal.invariant-loop-c
-invariant-loop-c l = BodyWalk l.strict l.text l.tokens l.kept l.i l.a l.initial.t l.initial.statements l.initial.arguments l.inside l.t l.label l.statements l.arguments
+abbrev pub invariant-loop-next : goal.invariant-loop-next
+invariant-loop-next l = BodyWalk l.strict l.source l.before l.initial.t l.initial.statements l.initial.arguments l.label l.t l.statements l.arguments
 
-abbrev pub decreases-loop-c : goal.decreases-loop-c
-decreases-loop-c l = length l.kept - l.t.at
+abbrev pub decreases-loop-next : goal.decreases-loop-next
+decreases-loop-next l = count l.source - l.t.at

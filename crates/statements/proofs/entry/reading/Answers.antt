@@ -1,37 +1,34 @@
+-- The branch over is_long, and what the two calls ask, stand here and in macro_tail (definitions): their goals name the places of one function, so no law takes both.
 use native.Mathlib.Omega.{arith}
+use borrow.Author.Rules.{rules}
 use borrow.Author.Tests.{ltb-false}
-use Rattle.statements.proofs.LabelLaws.{parts_end, body_named}
-use Rattle.statements.proofs.EntryLaws.{body_read, body_begins}
-use Rattle.grammar.specs.Rules.{asks}
-use Rattle.tokens.specs.Token.{view}
 use mathlib.Core.Logic.{inl, inr}
 use mathlib.Core.Path.{sym, ◌∙◌}
-use borrow.Author.Rules.{rules}
+use Rattle.grammar.specs.Rules.{asks}
+use Rattle.tokens.specs.Source.{all}
+use Rattle.statements.proofs.LabelLaws.{parts_end, body_named}
+use Rattle.statements.proofs.EntryLaws.{body_taken, body_begins}
 use Rattle.statements.proofs.entry.reading.Goals as goal
-use Rattle.statements.proofs.entry.reading.Goals.{then-strict+then-is_long, then-strict+else-is_long, else-strict}
+use Rattle.statements.proofs.entry.reading.Goals.{else-not-strict+then-is_long, else-not-strict+else-is_long, then-not-strict}
 
-pub named_once_long-read-requires : goal.named_once_long-read-requires
-named_once_long-read-requires c =
-    let a = c.args in record {
-      from_door = c.requires.list;
-      p_le_most_tokens = (omega (arith, c.requires.inside, c.requires.list.few), parts_end a.strict a.text.now a.tokens.now a.kept.now (body_begins c.requires) c.parse_body-read.ensures);
-    }
+pub named_once_long-requires-clause-p_le_most_tokens : goal.named_once_long-requires-clause-p_le_most_tokens
+named_once_long-requires-clause-p_le_most_tokens c =
+    (omega (arith, c.requires.inside, c.requires.list.few), parts_end c.args.strict c.args.source.now (body_begins c.requires) c.parse_body-body.ensures)
 
-pub named_once-read-requires : goal.named_once-read-requires
-named_once-read-requires c =
-    let a = c.args in
-    let end = parts_end a.strict a.text.now a.tokens.now a.kept.now (body_begins c.requires) c.parse_body-read.ensures in record {
-      from_door = c.requires.list;
-      p_le_most_tokens = (omega (arith, c.requires.inside, c.requires.list.few), end, ltb-false _ _ (sym c.is_long.ensures ∙ c.if-is_long.false));
-    }
+pub named_once-requires-clause-p_le_most_tokens : goal.named_once-requires-clause-p_le_most_tokens
+named_once-requires-clause-p_le_most_tokens c = (
+  omega (arith, c.requires.inside, c.requires.list.few),
+  parts_end c.args.strict c.args.source.now (body_begins c.requires) c.parse_body-body.ensures,
+  ltb-false _ _ (sym c.is_long.ensures ∙ c.if-is_long.false),
+)
 
 pub returns : goal.returns
 returns c =
     let a = c.args in
-    let read = body_named a.strict (view a.text.now a.tokens.now a.kept.now) {r' = c.if-strict.read} c.parse_body-read.ensures
-    (elim c.if-strict.branch [
-      | then-strict+then-is_long x ↦ inl (x.if-strict.true, x.read-is ∙ x.named_once_long-read.ensures)
-      | then-strict+else-is_long x ↦ inl (x.if-strict.true, x.read-is ∙ x.named_once-read.ensures)
-      | else-strict x ↦ inr (x.if-strict.false, x.read-is)
+    let read = body_named a.strict (all a.source.now) {r' = c.if-not-strict.read} c.parse_body-body.ensures
+    (elim c.if-not-strict.branch [
+      | then-not-strict x ↦ inr (x.if-not-strict.true, x.read-is)
+      | else-not-strict+then-is_long x ↦ inl (x.if-not-strict.false, x.read-is ∙ x.named_once_long.ensures)
+      | else-not-strict+else-is_long x ↦ inl (x.if-not-strict.false, x.read-is ∙ x.named_once.ensures)
     ]) in
-    body_read (asks a.strict) a.short a.text.now a.tokens.now a.kept.now a.start a.statements.now a.arguments.now read (search rules) (search rules) c.settle.ensures
+    body_taken (asks a.strict) a.short a.source.now a.start a.statements.now a.arguments.now read (search rules) (search rules) c.settle.ensures

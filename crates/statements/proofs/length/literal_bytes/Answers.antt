@@ -10,8 +10,8 @@ use Rattle.statements.proofs.length.literal_bytes.Goals.{else-short-via-then-sho
 
 pub returns-then-is_zero : goal.returns-then-is_zero
 returns-then-is_zero c =
-    let a = c.args in
-    let text = view_text a.text.now a.tokens.now a.kept.now a.p ∙ sym c.text_at-literal.ensures in
+    let source = c.args.source.now in
+    let text = view_text source.text.now source.tokens.now source.kept.now c.args.p ∙ sym c.text_at-literal.ensures in
     rw (text, sym c.is_zero.ensures ∙ c.if-is_zero.true, c.if-short.true)
 
 pub overflow_add-result : goal.overflow_add-result
@@ -19,10 +19,10 @@ overflow_add-result c = omega (arith, significant_between (literal_value c.text_
 
 pub returns : goal.returns
 returns c =
-    let a = c.args in
-    let text = view_text a.text.now a.tokens.now a.kept.now a.p ∙ sym c.text_at-literal.ensures in
+    let source = c.args.source.now in
+    let text = view_text source.text.now source.tokens.now source.kept.now c.args.p ∙ sym c.text_at-literal.ensures in
     let zero = is_zero c.text_at-literal.result.now in
-    let other : (zero && a.short) ≡ false = elim c.else-short.branch [
+    let other : (zero && c.args.short) ≡ false = elim c.else-short.branch [
       | else-short-via-then-short+else-is_zero x ↦ rw (sym x.is_zero.ensures ∙ x.if-is_zero.false)
       | else-short-via-else-short x ↦ rw x.if-short.false (and-false zero)
     ] in

@@ -7,8 +7,5 @@ use Rattle.tokens.proofs.door.keep.Given as goal
 
 abbrev pub invariant-loop-i : goal.invariant-loop-i
 invariant-loop-i l =
-    (l.i ≤ l.last) × (l.m ≤ l.i) × (length l.kept ≡ length l.initial.kept) × (l.m + length (kept_from l.tokens (length l.tokens / 4 - l.i) l.i) ≡ length (kept_of l.tokens))
+    (l.m ≤ l.i) × (l.m + length (kept_from l.tokens (length l.tokens / 4 - l.i) l.i) ≡ length (kept_of l.tokens))
     × (sets l.kept l.m (kept_from l.tokens (length l.tokens / 4 - l.i) l.i) ≡ sets l.initial.kept 0 (kept_of l.tokens))
-
-abbrev pub decreases-loop-i : goal.decreases-loop-i
-decreases-loop-i l = l.last - l.i

@@ -3,21 +3,21 @@ use Rattle.tokens.specs.Byte.{bytes}
 use Rattle.tokens.proofs.NameLaws.{type_bare, type_uint_lem, type_int_lem, type_bytes_lem, type_none_lem}
 use Rattle.tokens.proofs.name.type_of.Goals as goal
 
-pub returns-then-bare-ne-TYPE_NONE : goal.returns-then-bare-ne-TYPE_NONE
-returns-then-bare-ne-TYPE_NONE c = type_bare _ _ _ c.bare_type-bare.ensures c.if-bare-ne-TYPE_NONE.true
+pub returns-in-Some : goal.returns-in-Some
+returns-in-Some c = type_bare _ _ c.in-Some.ensures
 
-pub returns-then-unsigned-ne0 : goal.returns-then-unsigned-ne0
+pub returns-in-Some-size_in : goal.returns-in-Some-size_in
 unfolding bytes
-returns-then-unsigned-ne0 c = type_uint_lem _ _ _ c.bare_type-bare.ensures c.if-bare-ne-TYPE_NONE.false _ c.size_in-unsigned.ensures.1 c.if-unsigned-ne0.true
+returns-in-Some-size_in c = type_uint_lem _ c.in_default.ensures _ c.in-Some-size_in.ensures
 
-pub returns-then-signed-ne0 : goal.returns-then-signed-ne0
+pub returns-in-Some-size_in-2 : goal.returns-in-Some-size_in-2
 unfolding bytes
-returns-then-signed-ne0 c = type_int_lem _ _ _ c.bare_type-bare.ensures c.if-bare-ne-TYPE_NONE.false _ c.size_in-unsigned.ensures.1 c.if-unsigned-ne0.false _ c.size_in-signed.ensures.1 c.if-signed-ne0.true
+returns-in-Some-size_in-2 c = type_int_lem _ c.in_default.ensures c.in_default-size_in.ensures _ c.in-Some-size_in-2.ensures
 
-pub returns-then-bytes-ne0 : goal.returns-then-bytes-ne0
+pub returns-in_err-bytes : goal.returns-in_err-bytes
 unfolding bytes
-returns-then-bytes-ne0 c = type_bytes_lem _ _ _ c.bare_type-bare.ensures c.if-bare-ne-TYPE_NONE.false _ c.size_in-unsigned.ensures.1 c.if-unsigned-ne0.false _ c.size_in-signed.ensures.1 c.if-signed-ne0.false _ c.size_in-bytes.ensures.1 c.if-bytes-ne0.true
+returns-in_err-bytes c = rw c.from_residual.ensures (type_none_lem _ c.in_default.ensures c.in_default-size_in.ensures c.in_default-size_in-2.ensures c.in_err-bytes.ensures)
 
 pub returns : goal.returns
 unfolding bytes
-returns c = type_none_lem _ _ _ c.bare_type-bare.ensures c.if-bare-ne-TYPE_NONE.false _ c.size_in-unsigned.ensures.1 c.if-unsigned-ne0.false _ c.size_in-signed.ensures.1 c.if-signed-ne0.false _ c.size_in-bytes.ensures.1 c.if-bytes-ne0.false
+returns c = type_bytes_lem _ c.in_default.ensures c.in_default-size_in.ensures c.in_default-size_in-2.ensures _ c.in_ok-bytes.ensures

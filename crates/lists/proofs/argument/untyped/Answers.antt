@@ -1,5 +1,0 @@
-use native.Mathlib.Numerals.{towards_suc}
-use Rattle.lists.proofs.argument.untyped.Goals as goal
-
-pub returns : goal.returns
-returns c = simp towards_suc

@@ -1,0 +1,8 @@
+-- Inner: what a contract sees of remembered names.
+use Rattle.std.specs.Prelude.{length, min}
+use Rattle.tokens.specs.Source.{all}
+use Rattle.names.specs.Names.{Seen, names_at}
+use Rattle.names.specs.declared.names.Remembered.{Remembered}
+
+abbrev pub seen : Remembered → Seen
+seen r = record { tokens = all r.source.now; names = names_at (all r.source.now) r.places.now r.count; room = min (length r.next.now) (length r.places.now) }
