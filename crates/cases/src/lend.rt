@@ -7,11 +7,18 @@ use crate::room::{ARGUMENTS_ROOM, DEFINITIONS_ROOM, KEPT_ROOM, STATEMENTS_ROOM};
 // What every lent word holds before the call, so that a word left alone can be told from one written.
 const FILLER: u32 = 0xa5a5_a5a5;
 
-// The first n words of a list as they are before the call. The others are not filled, so that a small case costs little.
+// The first n words of a list.
+fn part_of(list: &mut [u32], n: u32) -> Result<&mut [u32], NoAnswer>
+    ensures { MatchResult result (λ part. length part.now ≡ n) (λ _. length list.old < n) }
+{
+    list.get_mut(..n as usize).ok_or(NoAnswer::TooLarge)
+}
+
+// The same as they are before the call. The others are not filled, so that a small case costs little.
 pub fn lent(list: &mut [u32], n: u32) -> Result<&mut [u32], NoAnswer>
     ensures { MatchResult result (λ part. part.now ≡ replicate n FILLER) (λ _. length list.old < n) }
 {
-    let part = list.get_mut(..n as usize).ok_or(NoAnswer::TooLarge)?;
+    let part = part_of(list, n)?;
     part.fill(FILLER);
     Ok(part)
 }
@@ -56,11 +63,20 @@ impl Room {
             statements,
             arguments,
         } = self;
+        let kept = part_of(kept, lengths.kept)?;
+        let definitions = part_of(definitions, lengths.definitions)?;
+        let statements = part_of(statements, lengths.statements)?;
+        let arguments = part_of(arguments, lengths.arguments)?;
+        // only now, so that a case with one too large costs no more
+        kept.fill(FILLER);
+        definitions.fill(FILLER);
+        statements.fill(FILLER);
+        arguments.fill(FILLER);
         Ok(Lists {
-            kept: lent(kept, lengths.kept)?,
-            definitions: lent(definitions, lengths.definitions)?,
-            statements: lent(statements, lengths.statements)?,
-            arguments: lent(arguments, lengths.arguments)?,
+            kept,
+            definitions,
+            statements,
+            arguments,
         })
     }
 }

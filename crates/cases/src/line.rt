@@ -3,6 +3,7 @@ ghost use Rattle.std.specs.Prelude.{◌≡◌, ◌+◌, ◌*◌, IfSome};
 
 use crate::filled::{Filled, Full};
 use crate::room::{BEFORE_WORDS, NUMBERS_ROOM, TEXT_ROOM};
+use tokens::{digit_value, is_hex};
 
 // How many numbers stand before EDITION.
 const BEFORE_EDITION: usize = 1;
@@ -225,9 +226,14 @@ impl Line {
         self.fits = self.fits.and(self.numbers.push(number));
     }
 
-    // A hex digit of the text: the first of a byte is kept in hand, the second makes it whole.
+    // A hex digit of the text, which the library reads, so that the sample shows a digit that is worth something else: the first of a byte is kept in hand, the second
+    // makes it whole.
+    #[tactic(auto, using(tokens::proofs::LiteralLaws::digit_lt))]
     fn read_hex(&mut self, byte: u8) -> Option<()> {
-        let digit = char::from(byte).to_digit(16)? as u8;
+        if !is_hex(byte) {
+            return None;
+        }
+        let digit = digit_value(byte) as u8;
         match self.high.take() {
             None => self.high = Some(digit * 16),
             Some(high) => self.fits = self.fits.and(self.text.push(high | digit)),

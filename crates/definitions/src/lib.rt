@@ -10,4 +10,4 @@ mod signature;
 mod table;
 
 pub use definition::read_definition;
-pub use record::{DefRead, Definition, DefinitionKind};
+pub use record::{DefRead, Definition, DefinitionKind, is_named};

@@ -14,7 +14,7 @@ ghost use Rattle.tokens.specs.Source.{all, all_from, count};
 
 use crate::record::{DefRead, DefinitionKind, Found};
 use lists::{ArgList, Before, Single, Sort, parse_args, parse_single_arg};
-use statements::{Progress, is_long, named_once, named_once_long, parse_body};
+use statements::{Progress, cursor_of, is_long, named_once, named_once_long, parse_body};
 use tokens::{Refusal, Source, Wrong, kind};
 
 // The three kinds of a macro.
@@ -163,10 +163,11 @@ fn macro_tail(
     };
     let mut read = parse_body(source, strict, s, statements, arguments, before);
     if strict {
-        if is_long(e, &read) {
-            read = named_once_long(source, e, read);
+        let end = cursor_of(&read);
+        if is_long(e, end) {
+            read = named_once_long(source, e, end).and(read);
         } else {
-            read = named_once(source, e, read);
+            read = named_once(source, e, end).and(read);
         }
     }
     Ok(Tail {

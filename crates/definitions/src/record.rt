@@ -2,7 +2,7 @@
 ghost use Rattle.std.specs.Prelude.{◌≡◌};
 ghost use Rattle.tokens.specs.Number.{definition_width};
 ghost use Rattle.tokens.specs.Lent.{put};
-ghost use Rattle.definitions.specs.Answers.{definition_words};
+ghost use Rattle.definitions.specs.Answers.{definition_words, is_named};
 ghost use Rattle.definitions.specs.Found.{Fitting, bare, definition_of};
 
 use lists::Before;
@@ -28,16 +28,20 @@ impl DefinitionKind {
     ghost use Rattle.std.specs.Prelude.{◌≡◌};
     ghost use Rattle.definitions.specs.Answers.{definition_number, is_named};
 
-    // A definition of this kind has a name that none other may have: a macro, fn or test.
-    #[tactic(auto, unfolding(crate::specs::Answers::is_named))]
+    // A definition of this kind has a name that none other may have.
     pub fn is_named(self) -> bool
         ensures { result ≡ is_named (definition_number self) }
     {
-        matches!(
-            self,
-            DefinitionKind::Macro | DefinitionKind::Fn | DefinitionKind::Test
-        )
+        is_named(self as u32)
     }
+}
+
+// The same of the kind's number, as a record has it: a macro, fn or test.
+#[tactic(auto, unfolding(crate::specs::Answers::is_named))]
+pub fn is_named(kind: u32) -> bool
+    ensures { result ≡ is_named kind }
+{
+    DefinitionKind::Macro as u32 <= kind && kind <= DefinitionKind::Test as u32
 }
 
 // A definition's words but the last two, which say where it stands in the text: no reader looks there.

@@ -9,15 +9,15 @@ ghost use Rattle.tokens.specs.Source.{all_from, count};
 
 use crate::record::DefinitionKind;
 use lists::{Sort, parse_args};
-use tokens::{Refusal, Source, Wrong, kind};
+use tokens::{Refusal, Source, Wrong, kind, number};
 
 // The types of a function, by document 01's numbers.
 #[derive(Clone, Copy)]
 pub enum FunctionType {
-    View = 1,
-    Pure = 2,
-    Payable = 3,
-    NonPayable = 4,
+    View = number::FUNCTION_VIEW as isize,
+    Pure = number::FUNCTION_PURE as isize,
+    Payable = number::FUNCTION_PAYABLE as isize,
+    NonPayable = number::FUNCTION_NON_PAYABLE as isize,
 }
 
 // The place behind it, the inputs and outputs, and a function's type; an event and an error have no outputs.

@@ -123,7 +123,7 @@ fn put_entry(statements: &mut [u32], m: usize, ty: StatementType, p: usize, befo
         statements,
         m,
         Statement {
-            ty,
+            ty: ty as u32,
             first: place,
             end,
             inner: own,

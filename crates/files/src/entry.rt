@@ -103,7 +103,8 @@ fn read_kept(
     match read_definitions(source, strict, definitions, statements, arguments) {
         Err(refusal) => {
             clear_all(definitions, statements, arguments);
-            let told = type_told(source, &refusal);
+            let at = refusal.at();
+            let told = type_told(source, refusal.number(), at);
             Err(FileError::Refused(refusal, told))
         }
         Ok(read) => {

@@ -1,16 +1,18 @@
 -- Runs of a class and open comments, one byte at a time. Assumes nothing.
-use Prim.Native.Nat.{ℕ, zero, suc, ◌+◌, ◌<◌}
+use Prim.Native.Nat.{ℕ, zero, suc, ◌+◌, ◌-◌, ◌<◌, ◌≤◌}
 use Prim.Native.Char.{code}
-use mathlib.Core.Path.{◌≡◌, refl, ap}
-use mathlib.Core.Bool.{Bool, true, false, ◌&&◌}
+use mathlib.Core.Path.{◌≡◌, refl, ap, ◌∙◌}
+use mathlib.Core.Bool.{Bool, true, false, ◌&&◌, and-false}
 use mathlib.Core.List.{List, [], ◌∷◌}
+use mathlib.Core.Logic.{⊎_elim}
 use native.Mathlib.Omega.{arith}
 use native.Mathlib.Numerals.{add-one}
 use lib.Dec.{eqb}
-use lib.ListN.{length, get_or, drop}
+use lib.ListN.{length, get_or, drop, get_or-eq_default}
 use lib.Seq.{drop-cons, get_or-drop}
 use Rattle.std.specs.Prelude.{Option, Some, None, MatchOption, unwrap_or}
 use Rattle.lexemes.specs.Reader.{run, closing, opened}
+use Rattle.tokens.proofs.Laws.{lt_or_le}
 
 -- a run goes on to the end, or to the first byte that is none of the class
 module _ (class : ℕ → Bool) where
@@ -47,3 +49,12 @@ module _ (t : List ℕ) (i : ℕ) where
   pub open_stop : i < length t → closing (drop i t) ≡ true → opened (drop i t) ≡ 0
   unfolding opened
   open_stop h e = let f = rw (drop-cons t i 0 h) at e in rw (drop-cons t i 0 h, f)
+
+  -- the last byte begins no end
+  last_open : length t ≤ i + 1 → closing (drop i t) ≡ false
+  last_open h = let none : get_or t (i + 1) 0 ≡ 0 = get_or-eq_default t 0 h in closes_is ∙ rw (none, and-false)
+
+  -- and so a comment that is open at its last byte is open
+  pub open_left : length t - 1 ≤ i → i + opened (drop i t) ≡ opened t → length t ≤ opened t
+  open_left h e =
+      ⊎_elim (λ (l : i < length t). let more = open_more l (last_open (omega arith)) in omega (arith, e, more)) (λ (l : length t ≤ i). omega (arith, e)) (lt_or_le i (length t))

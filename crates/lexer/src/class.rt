@@ -1,5 +1,5 @@
 // What comes first in a text: a byte, bytes that are known, how many bytes of a class.
-ghost use Rattle.std.specs.Prelude.{ℕ, ◌≤◌, ◌<◌, ◌≡◌, Bool, MatchOption, length, get_or, drop};
+ghost use Rattle.std.specs.Prelude.{◌+◌, ℕ, ◌≤◌, ◌<◌, ◌≡◌, Bool, MatchOption, length, get_or, drop};
 ghost use Rattle.lexemes.specs.Bytes.{begins, is_space, is_digit, is_word_byte, in_line, in_quotes};
 ghost use Rattle.lexemes.specs.Reader.{run, closing, opened};
 
@@ -68,12 +68,30 @@ pub fn run_of<F: Fn(u8) -> bool>(bytes: &[u8], is_in: F) -> usize
     bytes.iter().position(|b| !is_in(*b)).unwrap_or(bytes.len())
 }
 
-// A comment's end begins at this byte.
+// How many bytes of a line come first, and how many that can stand between these quotes. Not inline: where the lexer's two passes have these loops, the code around them says
+// how they lie, and a long string or comment took up to twice as long (bench/README.md).
+#[inline(never)]
+pub fn line_of(bytes: &[u8]) -> usize
+    ensures value { result ≡ run in_line bytes.now }
+    ensures result_in_bounds { result ≤ length bytes.now }
+{
+    run_of(bytes, in_line)
+}
+
+#[inline(never)]
+pub fn quoted_of(quote: u8, bytes: &[u8]) -> usize
+    ensures value { result ≡ run (in_quotes quote) bytes.now }
+    ensures result_in_bounds { result ≤ length bytes.now }
+{
+    run_of(bytes, |b| in_quotes(quote, b))
+}
+
+// A comment's end begins at this byte, which is not the last.
 fn closes(bytes: &[u8], i: usize) -> bool
-    requires { i < length bytes.now }
+    requires { i + 1 < length bytes.now }
     ensures { result ≡ closing (drop i bytes.now) }
 {
-    bytes[i] == b'*' && byte_at(bytes, i + 1) == b'/'
+    bytes[i] == b'*' && bytes[i + 1] == b'/'
 }
 
 // How many bytes come before the first end of a comment. `windows(2)` with `position` was tried: from what its runs promise the search does not come to the first place of the two
@@ -81,7 +99,9 @@ fn closes(bytes: &[u8], i: usize) -> bool
 pub fn comment_end(bytes: &[u8]) -> Option<usize>
     ensures { MatchOption result (length bytes.now ≤ opened bytes.now) (λ n. (n < length bytes.now) × (n ≡ opened bytes.now)) }
 {
-    for i in 0..bytes.len() {
+    // the last byte begins no end: where it was asked too, a comment of stars took up to half as long again (bench/README.md)
+    let last = bytes.len().saturating_sub(1);
+    for i in 0..last {
         if closes(bytes, i) {
             return Some(i);
         }

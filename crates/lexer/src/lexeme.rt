@@ -6,7 +6,7 @@ ghost use Rattle.lexemes.specs.Contexts.{is_code};
 ghost use Rattle.lexemes.specs.Reader.{run, found, slash, quoted, hashed, hash, number, word, worded, marked, lexeme_of};
 
 use crate::class::{
-    begins_with, byte_at, comment_end, in_line, in_quotes, is_digit, is_letter, is_space, run_of,
+    begins_with, byte_at, comment_end, is_digit, is_letter, is_space, line_of, quoted_of, run_of,
 };
 use lexemes::{Context, Found, LexemeError};
 use tokens::{is_hex, kind};
@@ -26,7 +26,7 @@ fn slash_first(bytes: &[u8]) -> Result<Found, LexemeError>
     ensures { result ≡ slash bytes.now }
 {
     match byte_at(bytes, 1) {
-        b'/' => found(kind::COMMENT, run_of(bytes, in_line)),
+        b'/' => found(kind::COMMENT, line_of(bytes)),
         b'*' => match comment_end(&bytes[2..]) {
             Some(n) => found(kind::COMMENT, n + 4),
             None => Err(LexemeError::NotClosed),
@@ -41,7 +41,7 @@ fn quote_first(quote: u8, bytes: &[u8]) -> Result<Found, LexemeError>
     requires { 0 < length bytes.now }
     ensures { result ≡ quoted quote bytes.now }
 {
-    let n = run_of(&bytes[1..], |b| in_quotes(quote, b));
+    let n = quoted_of(quote, &bytes[1..]);
     if byte_at(bytes, 1 + n) == quote {
         found(kind::STR, n + 2)
     } else {

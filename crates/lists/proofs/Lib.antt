@@ -4,3 +4,4 @@ pub mod Left
 pub mod ArgumentLaws
 pub mod ListLaws
 pub mod SingleLaws
+pub mod Fixed

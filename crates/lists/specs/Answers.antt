@@ -1,5 +1,5 @@
 -- Inner: how the code's answers and tables hold what the reader reads: arguments, lists, a number in parentheses.
-use Rattle.std.specs.Prelude.{ℕ, suc, ◌+◌, ◌≤◌, ◌<◌, ◌≡◌, ◌≢◌, Bool, true, false, cond, List, map, length, Option, Some, None, Result, Ok, Err, IfOk, ⊤}
+use Rattle.std.specs.Prelude.{ℕ, suc, ◌+◌, ◌≤◌, ◌<◌, ◌≡◌, ◌≢◌, Bool, true, false, cond, List, map, length, Option, Some, None, Result, Ok, Err, IfOk, IfSome, ⊤}
 use Rattle.std.specs.Int.{from_bool}
 use Rattle.tokens.specs.Token.{Token}
 use Rattle.tokens.specs.Number.{UnexpectedType, argument_width, name_form, string_form, literal_form, call_literal_form, call_name_form, call_angled_form, in_calldata, in_memory, in_storage}
@@ -78,10 +78,15 @@ abbrev pub answered : {T : Type 0} → (T → reading.Argument × ℕ) → Resul
 answered f (Ok x) = Ok (f x)
 answered f (Err e) = Err e
 
+-- a place that an argument tells is one of its own, and so no number that stands for an absent one
+abbrev pub Told : Argument → Type 0
+Told a = IfSome a.ty (λ t. t < a.end) × IfSome a.name (λ n. n < a.end)
+
 -- what the reader of one argument promises: the answer, and that the place behind it lies in the kept list
 pub record ArgRead (p size : ℕ) (read : Res reading.Argument) (r : Result Argument (ℕ × ℕ)) : Type 0 where
   pub is : answered (λ a. (reading_of a, a.end)) r ≡ arg_answer p read
   pub within : IfOk r (λ a. (p < a.end) × (a.end ≤ size))
+  pub told : IfOk r Told
 
 -- a name at p, the last token of an argument whose first place and location are known
 abbrev pub named : ℕ → ℕ → ℕ → reading.Argument

@@ -1,5 +1,5 @@
 // One argument of a list, read from its first token; nothing is written here.
-ghost use Rattle.std.specs.Prelude.{ℕ, suc, ◌+◌, ◌<◌, ◌≤◌, List, ◌≡◌, MatchOption};
+ghost use Rattle.std.specs.Prelude.{ℕ, suc, ◌+◌, ◌<◌, ◌≤◌, List, ◌≡◌, MatchOption, Some, None};
 ghost use Rattle.std.specs.Int.{from_bool};
 ghost use Rattle.tokens.specs.Number.{most_tokens};
 ghost use Rattle.tokens.specs.Place.{Place, tokens_from};
@@ -7,28 +7,28 @@ ghost use Rattle.grammar.specs.Reading.{one_token, angled};
 ghost use Rattle.grammar.specs.Result.{got, with_one_more};
 ghost use Rattle.grammar.specs.Reader.{call_argument, builtin_argument, name_argument};
 ghost use Rattle.grammar.specs.Typed.{indexed_here, typed_argument};
-ghost use Rattle.lists.specs.Answers.{form_number, location_kind, NoLocation, reading_of, ArgRead, angled_rest, UntypedName, TypedName, one};
+ghost use Rattle.lists.specs.Answers.{form_number, location_kind, NoLocation, reading_of, Told, ArgRead, angled_rest, UntypedName, TypedName, one};
 ghost use Rattle.tokens.specs.Source.{all_from, count};
 
-use tokens::{Refusal, Source, Wrong, is_reserved, kind};
+use tokens::{Refusal, Source, Wrong, is_reserved, kind, number};
 
 // The forms of an argument, with their numbers in its record.
 #[derive(Clone, Copy, PartialEq, Eq)]
 pub enum Form {
-    Name = 1,
-    Str = 2,
-    Literal = 3,
-    CallLiteral = 4,
-    CallName = 5,
-    CallAngled = 6,
+    Name = number::ARGUMENT_NAME as isize,
+    Str = number::ARGUMENT_STRING as isize,
+    Literal = number::ARGUMENT_LITERAL as isize,
+    CallLiteral = number::ARGUMENT_CALL_LITERAL as isize,
+    CallName = number::ARGUMENT_CALL_NAME as isize,
+    CallAngled = number::ARGUMENT_CALL_ANGLED as isize,
 }
 
 // The locations, with theirs.
 #[derive(Clone, Copy)]
 pub enum Location {
-    Calldata = 1,
-    Memory = 2,
-    Storage = 3,
+    Calldata = number::LOCATION_CALLDATA as isize,
+    Memory = number::LOCATION_MEMORY as isize,
+    Storage = number::LOCATION_STORAGE as isize,
 }
 
 // An argument: its places are words, as in its record; `end` is the place behind it.
@@ -56,7 +56,8 @@ pub enum Sort {
 // An argument of one token. That its place is below most_tokens is a clause, here and wherever a place becomes a word: the place is a usize and changes from call to call.
 fn one_token(form: Form, p: usize) -> Argument
     requires { p < most_tokens }
-    ensures { reading_of result ≡ one_token (form_number form) p }
+    ensures reading { reading_of result ≡ one_token (form_number form) p }
+    ensures told { (result.ty ≡ None) × (result.name ≡ Some p) }
 {
     let at = p as u32;
     Argument {
@@ -73,7 +74,8 @@ fn one_token(form: Form, p: usize) -> Argument
 // A call's `<name>`, whose `<` stands at p.
 fn angled_call(p: usize) -> Argument
     requires { p < most_tokens }
-    ensures { reading_of result ≡ angled p }
+    ensures reading { reading_of result ≡ angled p }
+    ensures told { Told result }
 {
     let at = p as u32;
     Argument {

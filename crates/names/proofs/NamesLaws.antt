@@ -22,7 +22,7 @@ use Rattle.tokens.specs.Byte.{same}
 use Rattle.tokens.specs.Name.{one_of}
 use Rattle.tokens.proofs.NameLaws.{same_equal}
 use Rattle.tokens.proofs.TokenLaws.{view_text}
-use Rattle.names.specs.Names.{mixed, four_of, rest_of, hash_from, hash_of, bucket_in, bucket_of, tag_of, note_of, place_of, name_at, names_at, latest, Noted}
+use Rattle.names.specs.Names.{mixed, four_of, rest_of, hash_from, hash_of, bucket_in, bucket_of, tag_of, note_of, place_of, name_at, names_at, latest, Noted, Seen, Checked, Noting, CheckedIn}
 
 -- ---- the hash
 
@@ -384,3 +384,37 @@ pub remembered : (all : List Token) (heads next places : List ℕ) (n p h b : �
     → Noted all (set heads b (n + 1)) (set next n (get_or heads b 0)) (set places n (note_of h p)) (n + 1)
     × (names_at all (set places n (note_of h p)) (n + 1) ≡ (token_at all p).text ∷ names_at all places n)
 remembered all heads next places n p h b noted room room' few hashed is = rw (is, hashed, add-one n) (noted_more all heads next places n p noted room room' few)
+
+-- what is seen of remembered names after a test says what the tables hold, in which they stand
+checked_as : (r : Bool) (all : List Token) (name places hs xs ps : List ℕ) (n n' : ℕ)
+    → Noted all hs xs ps n'
+    → names_at all ps n' ≡ cond r (names_at all places n) (name ∷ names_at all places n)
+    → Noting r all name places n hs xs ps (suc n)
+checked_as true all name places hs xs ps n n' noted names = tt
+checked_as false all name places hs xs ps n n' noted names =
+    let counted : n' ≡ suc n = sym (names_length all ps n') ∙ ap length names ∙ ap suc (names_length all places n) in (rw (← counted) noted, rw (← counted) names)
+
+pub checked_in : (r : Bool) (all all' : List Token) (name places heads next to hs xs ps : List ℕ) (n n' room room' : ℕ)
+    → Checked name (record { tokens = all; names = names_at all places n; room = room }) r (record { tokens = all'; names = names_at all' to n'; room = room' })
+    → Noted all' heads next to n'
+    → hs ≡ heads
+    → xs ≡ next
+    → ps ≡ to
+    → CheckedIn all name places n r hs xs ps
+checked_in r all all' name places heads next to hs xs ps n n' room room' m noted h x p = record { is = m.is; then = rw (h, x, p) (checked_as r all name places heads next to n n' (rw same at noted) (rw same at names)) }
+  where
+    same : all' ≡ all
+    same = ap (λ (s : Seen). s.tokens) m.then ∙ both r
+      where
+        both : (b : Bool) → (cond {A = Seen} b (record { tokens = all; names = names_at all places n; room = room }) (record { tokens = all; names = name ∷ names_at all places n; room = room })).tokens ≡ all
+        both true = refl
+        both false = refl
+
+    names : names_at all' to n' ≡ cond r (names_at all places n) (name ∷ names_at all places n)
+    names = ap (λ (s : Seen). s.names) m.then ∙ both r
+      where
+        both : (b : Bool)
+            → (cond {A = Seen} b (record { tokens = all; names = names_at all places n; room = room }) (record { tokens = all; names = name ∷ names_at all places n; room = room })).names
+            ≡ cond b (names_at all places n) (name ∷ names_at all places n)
+        both true = refl
+        both false = refl

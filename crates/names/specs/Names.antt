@@ -1,5 +1,5 @@
 -- Inner: names that are remembered by the places of their tokens, and what lets the code answer "none of them is this name" without looking at each.
-use Rattle.std.specs.Prelude.{ℕ, zero, suc, ◌+◌, ◌-◌, ◌*◌, ◌/◌, ◌%◌, ◌≤◌, ◌<◌, ◌≡◌, Bool, cond, List, [], ◌∷◌, eqb, length, get_or}
+use Rattle.std.specs.Prelude.{ℕ, zero, suc, ◌+◌, ◌-◌, ◌*◌, ◌/◌, ◌%◌, ◌≤◌, ◌<◌, ◌≡◌, Bool, true, false, cond, List, [], ◌∷◌, eqb, length, get_or}
 use Rattle.std.specs.Int.Bits.{bit_and}
 use Rattle.tokens.specs.Number.{most_tokens}
 use Rattle.tokens.specs.Token.{Token, token_at}
@@ -91,3 +91,14 @@ pub record Fresh (each tokens : ℕ) (all : List Token) (now : Seen) : Type 0 wh
 pub record Checked (name : List ℕ) (before : Seen) (r : Bool) (after : Seen) : Type 0 where
   pub is : r ≡ one_of before.names name
   pub then : after ≡ cond r before (record before { names = name ∷ before.names })
+
+-- one name more is remembered in tables, unless an earlier one is the same
+abbrev pub Noting : Bool → List Token → List ℕ → List ℕ → ℕ → List ℕ → List ℕ → List ℕ → ℕ → Type 0
+Noting true all name places n heads' next' places' n' = Unit {0}
+Noting false all name places n heads' next' places' n' =
+    Noted all heads' next' places' n' × (names_at all places' n' ≡ name ∷ names_at all places n)
+
+-- the same test of a name, over tables that hold n names: whether one of them is the same, and what the tables hold then
+pub record CheckedIn (all : List Token) (name places : List ℕ) (n : ℕ) (r : Bool) (heads' next' places' : List ℕ) : Type 0 where
+  pub is : r ≡ one_of (names_at all places n) name
+  pub then : Noting r all name places n heads' next' places' (suc n)

@@ -5,4 +5,4 @@ mod labels;
 mod names;
 
 pub use labels::{first_again, first_again_long, is_long};
-pub use names::Remembered;
+pub use names::{Remembered, check_duplicate};

@@ -6,7 +6,7 @@ ghost use Rattle.tokens.specs.Token.{token_at};
 ghost use Rattle.tokens.specs.Name.{one_of};
 ghost use Rattle.tokens.specs.Byte.{same};
 ghost use Rattle.tokens.specs.Source.{all};
-ghost use Rattle.names.specs.Names.{mixed, rest_of, hash_of, bucket_in, tag_of, place_of, Noted, Checked};
+ghost use Rattle.names.specs.Names.{mixed, rest_of, hash_of, bucket_in, tag_of, place_of, Noted, Checked, CheckedIn};
 
 use tokens::{Source, same_name};
 
@@ -83,7 +83,7 @@ fn is_noted(source: &Source, name: &[u8], h: u32, note: u32) -> bool
 // took many constants 40 in 100 longer (bench/README.md, `Remembered`).
 #[derive(Drop)]
 pub struct Remembered<'a> {
-    source: &'a Source<'a>,
+    source: &'a Source<'a, 'a>,
     heads: &'a mut [u16],
     next: &'a mut [u16],
     places: &'a mut [u32],
@@ -92,12 +92,12 @@ pub struct Remembered<'a> {
 }
 
 impl<'a> Remembered<'a> {
-    ghost use Rattle.names.specs.Remembered.{seen};
+    ghost use Rattle.names.specs.Remembered.{seen, SameTables};
 
     // None yet. What next and places hold is of no account.
     #[tactic(auto, unfolding(crate::specs::Names::names_at))]
     pub fn new(
-        source: &'a Source<'a>,
+        source: &'a Source<'a, 'a>,
         heads: &'a mut [u16],
         next: &'a mut [u16],
         places: &'a mut [u32],
@@ -138,7 +138,8 @@ impl<'a> Remembered<'a> {
         requires h_value { h ≡ hash_of (token_at (all self.old.source.now) p).text }
         requires room { (length (seen self.old).names < (seen self.old).room) × (length (seen self.old).names + 1 < most_tokens) }
         requires p_lt_most_tokens { p < most_tokens }
-        ensures { seen self.new ≡ record (seen self.old) { names = (token_at (all self.old.source.now) p).text ∷ (seen self.old).names } }
+        ensures remembered { seen self.new ≡ record (seen self.old) { names = (token_at (all self.old.source.now) p).text ∷ (seen self.old).names } }
+        ensures same_tables { SameTables self.old self.new }
     {
         let b = bucket_of(h, self.heads.len());
         let n = self.count;
@@ -155,7 +156,8 @@ impl<'a> Remembered<'a> {
     pub fn check_duplicate(&mut self, p: usize) -> bool
         requires room { (length (seen self.old).names < (seen self.old).room) × (length (seen self.old).names + 1 < most_tokens) }
         requires p_lt_most_tokens { p < most_tokens }
-        ensures { Checked (token_at (all self.old.source.now) p).text (seen self.old) result (seen self.new) }
+        ensures checked { Checked (token_at (all self.old.source.now) p).text (seen self.old) result (seen self.new) }
+        ensures same_tables { SameTables self.old self.new }
     {
         let name = self.source.text_at(p);
         let h = hash_of(name);
@@ -165,4 +167,28 @@ impl<'a> Remembered<'a> {
         self.remember(p, h);
         false
     }
+}
+
+// The same of tables that the caller holds, with `count` names in them: where none is the same, they hold one more. The readers here go on with one `Remembered`.
+pub fn check_duplicate(
+    source: &Source,
+    p: usize,
+    heads: &mut [u16],
+    next: &mut [u16],
+    places: &mut [u32],
+    count: usize,
+) -> bool
+    requires noted { Noted (all source.now) heads.old next.old places.old count }
+    requires room { (count < length next.old) × (count < length places.old) × (count + 1 < most_tokens) }
+    requires p_lt_most_tokens { p < most_tokens }
+    ensures { CheckedIn (all source.now) (token_at (all source.now) p).text places.old count result heads.new next.new places.new }
+{
+    let mut names = Remembered {
+        source,
+        heads,
+        next,
+        places,
+        count,
+    };
+    names.check_duplicate(p)
 }

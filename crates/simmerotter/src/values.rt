@@ -22,8 +22,8 @@ fn refusal(number: u32, cursor: usize) -> [u64; ANSWER_NUMBERS]
 }
 
 // A refusal of the reading, with the type that it tells. The parameter and the function above both keep their name, `refusal`: edits that must fail say both.
-fn refused(refusal: Refusal, told: Option<NameType>) -> [u64; ANSWER_NUMBERS]
-    ensures { result ≡ refusal_of refusal.0 refusal.1 (type_numbers told) }
+fn refused(refusal: &Refusal, told: Option<NameType>) -> [u64; ANSWER_NUMBERS]
+    ensures { result ≡ refusal_of refusal.now.0 refusal.now.1 (type_numbers told) }
 {
     let (ty, size) = type_numbers(told);
     [
@@ -56,7 +56,7 @@ fn accepted(cursor: usize, first: usize, second: usize, third: usize) -> [u64; A
 pub fn file_values(answer: Result<FileRead, FileError>) -> [u64; ANSWER_NUMBERS]
     ensures { result ≡ file.values answer }
 {
-    match answer {
+    match &answer {
         Ok(read) => accepted(
             read.cursor,
             read.definitions,
@@ -64,12 +64,12 @@ pub fn file_values(answer: Result<FileRead, FileError>) -> [u64; ANSWER_NUMBERS]
             read.arguments,
         ),
         Err(FileError::UnknownMode) => refusal(number::UNKNOWN_MODE, 0),
-        Err(FileError::NotWellFormed(at)) => refusal(number::NOT_WELL_FORMED, at),
-        Err(FileError::KeptTooShort(count)) => refusal(number::KEPT_TOO_SHORT, count),
-        Err(FileError::Refused(why, told)) => refused(why, told),
-        Err(FileError::DefinitionsTooSmall(need)) => refusal(number::DEFINITIONS_TOO_SMALL, need),
-        Err(FileError::StatementsTooSmall(need)) => refusal(number::STATEMENTS_TOO_SMALL, need),
-        Err(FileError::ArgumentsTooSmall(need)) => refusal(number::ARGUMENTS_TOO_SMALL, need),
+        Err(FileError::NotWellFormed(at)) => refusal(number::NOT_WELL_FORMED, *at),
+        Err(FileError::KeptTooShort(count)) => refusal(number::KEPT_TOO_SHORT, *count),
+        Err(FileError::Refused(why, told)) => refused(why, *told),
+        Err(FileError::DefinitionsTooSmall(need)) => refusal(number::DEFINITIONS_TOO_SMALL, *need),
+        Err(FileError::StatementsTooSmall(need)) => refusal(number::STATEMENTS_TOO_SMALL, *need),
+        Err(FileError::ArgumentsTooSmall(need)) => refusal(number::ARGUMENTS_TOO_SMALL, *need),
     }
 }
 
@@ -77,7 +77,7 @@ pub fn file_values(answer: Result<FileRead, FileError>) -> [u64; ANSWER_NUMBERS]
 pub fn body_values(answer: Result<BodyRead, BodyError>) -> [u64; ANSWER_NUMBERS]
     ensures { result ≡ body.values answer }
 {
-    match answer {
+    match &answer {
         Ok(read) => accepted(
             read.cursor,
             read.statements,
@@ -86,12 +86,12 @@ pub fn body_values(answer: Result<BodyRead, BodyError>) -> [u64; ANSWER_NUMBERS]
         ),
         Err(BodyError::UnknownMode) => refusal(number::UNKNOWN_MODE, 0),
         Err(BodyError::UnknownEdition) => refusal(number::UNKNOWN_EDITION, 0),
-        Err(BodyError::NotWellFormed(at)) => refusal(number::NOT_WELL_FORMED, at),
-        Err(BodyError::KeptTooShort(count)) => refusal(number::KEPT_TOO_SHORT, count),
-        Err(BodyError::StartOutside(at)) => refusal(number::START_OUTSIDE, at),
-        Err(BodyError::Refused(why, told)) => refused(why, told),
-        Err(BodyError::StatementsTooSmall(need)) => refusal(number::STATEMENTS_TOO_SMALL, need),
-        Err(BodyError::ArgumentsTooSmall(need)) => refusal(number::ARGUMENTS_TOO_SMALL, need),
+        Err(BodyError::NotWellFormed(at)) => refusal(number::NOT_WELL_FORMED, *at),
+        Err(BodyError::KeptTooShort(count)) => refusal(number::KEPT_TOO_SHORT, *count),
+        Err(BodyError::StartOutside(at)) => refusal(number::START_OUTSIDE, *at),
+        Err(BodyError::Refused(why, told)) => refused(why, *told),
+        Err(BodyError::StatementsTooSmall(need)) => refusal(number::STATEMENTS_TOO_SMALL, *need),
+        Err(BodyError::ArgumentsTooSmall(need)) => refusal(number::ARGUMENTS_TOO_SMALL, *need),
     }
 }
 

@@ -5,3 +5,4 @@ mod find;
 mod table;
 
 pub use find::{kind_outside, opcode_of};
+pub use table::{TABLE, made_table};

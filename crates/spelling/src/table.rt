@@ -38,7 +38,7 @@ pub const LONGEST: usize = 17;
 
 pub const TABLE_LENGTH: usize = 1860;
 
-static TABLE: [u8; TABLE_LENGTH] = *b"\
+pub static TABLE: [u8; TABLE_LENGTH] = *b"\
     [$\x01\x00\xa5\x03PL_\x0cr\x0b\x02UzqB\x98\x16\x9e\x0f\x13\x7f\xa9a\x99S\x9f1\xa20\xac\
     /\x06E\x03 \x02\xbd\x023\x07 \x02 \x02 \x02 \x02 \x02#\x06 \x02 \x02\xed\x03\xbd\x03K\x02 \x02\xf0\x02 \x02 \x02 \x02 \x020\x02 \x02\xc3\x02\xa7\x03\x8f\x02\xa8\x06\xd5\x02\xc3\x06p\x02 \x02\
     U\x06\xef\x06\xd5\x06 \x02 \x02%\x045\x02\x0c\x03 \x02y\x02 \x02 \x02 \x02 \x02 \x02 \x02 \x02\xa2\x06 \x02 \x02 \x02 \x02 \x02 \x02 \x02 \x02 \x02 \x02 \x02 \x02 \x02 \x02\
@@ -68,11 +68,19 @@ static TABLE: [u8; TABLE_LENGTH] = *b"\
     \x06\xfdrevert\x07\xfeinvalid\x0c\xffselfdestruct\
     \x05\x06macro\x02\x07fn\x04\x08test\x08\x09function\x05\x0aevent\x08\x0bconstant\x05\x0cerror\x09\x0djumptable\x11\x0ejumptable__packed\x05\x0ftable\x05\x10takes\x07\x11returns\x04\x12view\x04\x13pure\x07\x14payable\x0a\x15nonpayable\x07\x16indexed\x08\x17calldata\x06\x18memory\x07\x19storage";
 
-// The table, and that it is the one of the names in Spelling: one that is not up to date is refused here.
+// The table, lent, and that it is the one of the names in Spelling: one that is not up to date is refused here.
 #[tactic(auto, unfolding(crate::specs::Slots::spellings))]
 pub fn bytes() -> &'static [u8]
     ensures value { result.now ≡ spellings }
     ensures size { length result.now ≡ table_length }
 {
     &TABLE
+}
+
+// The same as a value, made anew for each call: for who wants to hold it, and no look-up here does.
+#[tactic(auto, unfolding(crate::specs::Slots::spellings))]
+pub fn made_table() -> [u8; TABLE_LENGTH]
+    ensures { result ≡ spellings }
+{
+    TABLE
 }

@@ -21,9 +21,10 @@ use Rattle.grammar.specs.Again.{pushing, first_again, cursor_of, once}
 use Rattle.grammar.proofs.NamesOnce.{names_once_lem, cursor_inside}
 use Rattle.lists.specs.declared.before.Before.{Before}
 use Rattle.statements.specs.declared.item.Progress.{Progress}
-use Rattle.std.specs.Prelude.{Result, Err}
+use Rattle.std.specs.Prelude.{Result, Ok, Err, ⊤}
+use Rattle.std.specs.Result.{result_and}
 use Rattle.statements.specs.Answers.{Counting, body_answer, BodyParsed}
-use Rattle.statements.specs.Label.{cursor_at, named_once}
+use Rattle.statements.specs.Label.{cursor_at, named_before, named_once}
 use Rattle.statements.proofs.Pieces.{refused_here}
 
 -- the cursor of an answer is that of what was read
@@ -68,6 +69,14 @@ once_parsed {s} {before} {size} all {st} {ar} {st₁} {ar₁} {r} v =
     go true e =
         refused_here body_answer statement_records argument_records before DuplicateLabel (first_again all s.at (cursor_at r)) (rw (here, e)) refl
     go false e = rw (here, e) v
+
+-- what was read goes on behind the test of names, whatever it was refused with
+and_judged : (b : Bool) (at : ℕ) (r : Result Progress (ℕ × ℕ)) → result_and (cond {A = Result ⊤ (ℕ × ℕ)} b (Err (DuplicateLabel, at)) (Ok tt)) r ≡ cond b (Err (DuplicateLabel, at)) r
+and_judged true at r = refl
+and_judged false at r = refl
+
+pub and_named : (tokens : List Token) (p end : ℕ) (r : Result Progress (ℕ × ℕ)) {n : Result ⊤ (ℕ × ℕ)} → end ≡ cursor_at r → n ≡ named_before tokens p end → result_and n r ≡ named_once tokens p r
+and_named tokens p end r e f = rw (f, e) (and_judged (ltb (first_again tokens p (cursor_at r)) (cursor_at r)) (first_again tokens p (cursor_at r)) r)
 
 -- the answer behind the test of names, which is made only in strict reading
 pub body_named : (strict : Bool) {s : Progress} {before : Before} {size : ℕ} (all : List Token) {st ar st₁ ar₁ : List ℕ} {r r' : Result Progress (ℕ × ℕ)}

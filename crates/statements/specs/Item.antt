@@ -99,7 +99,7 @@ ItemRead p size all read (Err f) = RefusedRead read f.0 f.1
 
 -- the words of a statement's record
 abbrev pub statement_words : Statement → List ℕ
-statement_words s = type_number s.ty ∷ s.first ∷ s.end ∷ s.inner ∷ s.inners ∷ s.argument ∷ s.arguments ∷ s.place ∷ []
+statement_words s = s.ty ∷ s.first ∷ s.end ∷ s.inner ∷ s.inners ∷ s.argument ∷ s.arguments ∷ s.place ∷ []
 
 -- the words of a statement that is no label and begins at s.at
 abbrev pub simple_words : Progress → Before → StatementType → ℕ → ℕ → ℕ → List ℕ

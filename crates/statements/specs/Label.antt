@@ -1,5 +1,5 @@
 -- Inner: a label's two signs, its record and the rule on its name, as their small functions read and write them.
-use Rattle.std.specs.Prelude.{ℕ, ◌+◌, ◌-◌, Bool, true, cond, List, [], ◌∷◌, eqb, ltb, Option, Some, None, Result, Ok, Err}
+use Rattle.std.specs.Prelude.{ℕ, ◌+◌, ◌-◌, Bool, true, cond, List, [], ◌∷◌, eqb, ltb, Option, Some, None, Result, Ok, Err, ⊤}
 use Rattle.tokens.specs.Kind.{Colon, Label}
 use Rattle.tokens.specs.Number.{UnexpectedType, InvalidTokenInMacroBody, InvalidTokenInLabelDefinition, DuplicateLabel, label_type, statement_width}
 use Rattle.tokens.specs.Token.{Token}
@@ -43,10 +43,14 @@ abbrev pub cursor_at : Result Progress (ℕ × ℕ) → ℕ
 cursor_at (Ok t) = t.at
 cursor_at (Err f) = f.1
 
--- what was read, or 22 at a label before its cursor
-abbrev pub judged_at : Result Progress (ℕ × ℕ) → ℕ → Result Progress (ℕ × ℕ)
-judged_at read at = cond (ltb at (cursor_at read)) (Err (DuplicateLabel, at)) read
+-- 22 at a label, if that is one before `end`
+abbrev pub judged_at : ℕ → ℕ → Result ⊤ (ℕ × ℕ)
+judged_at end at = cond (ltb at end) (Err (DuplicateLabel, at)) (Ok tt)
+
+-- 22 at the first label from place p on and before `end` whose name stands again, if there is one
+abbrev pub named_before : List Token → ℕ → ℕ → Result ⊤ (ℕ × ℕ)
+named_before all p end = judged_at end (first_again all p end)
 
 -- what was read from place p on, or 22 at the first label before its cursor whose name stands again
 abbrev pub named_once : List Token → ℕ → Result Progress (ℕ × ℕ) → Result Progress (ℕ × ℕ)
-named_once all p read = judged_at read (first_again all p (cursor_at read))
+named_once all p read = cond (ltb (first_again all p (cursor_at read)) (cursor_at read)) (Err (DuplicateLabel, first_again all p (cursor_at read))) read

@@ -10,7 +10,7 @@ ghost use Rattle.grammar.specs.Again.{pushing};
 ghost use Rattle.statements.specs.Answers.{Counting, SimpleParsed, BodyParsed, flattened};
 ghost use Rattle.statements.specs.Item.{Small};
 ghost use Rattle.names.specs.Labels.{short_body};
-ghost use Rattle.statements.specs.Label.{label_put, label_opened, takes_in, wrong_in, cursor_at, judged_at, named_once};
+ghost use Rattle.statements.specs.Label.{label_put, label_opened, takes_in, wrong_in, cursor_at, judged_at, named_before};
 ghost use Rattle.tokens.specs.Source.{all, all_from, count};
 
 use crate::item::{Progress, Statement, StatementType, parse_item, put_statement};
@@ -67,7 +67,7 @@ fn put_label(statements: &mut [u32], label: Option<Progress>, before: Before, t:
         statements,
         n,
         Statement {
-            ty: StatementType::Label,
+            ty: StatementType::Label as u32,
             first,
             end,
             inner: own,
@@ -151,7 +151,7 @@ pub fn parse_body(
 }
 
 // Where the cursor stands behind what was read.
-fn cursor_of(read: &Result<Progress, Refusal>) -> usize
+pub fn cursor_of(read: &Result<Progress, Refusal>) -> usize
     ensures { result ≡ cursor_at read.now }
 {
     match read {
@@ -160,56 +160,46 @@ fn cursor_of(read: &Result<Progress, Refusal>) -> usize
     }
 }
 
-// What was read, unless `at` is the place of a label before its cursor: then that label is refused. A number and no
-// Option: `first_again` (names) promises grammar's number, which is no place before the cursor where no name stands again.
-fn judged(read: Result<Progress, Refusal>, at: usize) -> Result<Progress, Refusal>
-    ensures { result ≡ judged_at read at }
+// A label at `at` is refused, if that is a place before `end`. A number and no Option: `first_again` (names) promises grammar's number, which is no place before the cursor
+// where no name stands again.
+fn judged(end: usize, at: usize) -> Result<(), Refusal>
+    ensures { result ≡ judged_at end at }
 {
-    let end = cursor_of(&read);
     if at < end {
         return Err(Refusal::new(Wrong::DuplicateLabel, at));
     }
-    read
+    Ok(())
 }
 
-// Whether what was read from place p on is a long body.
-pub fn is_long(p: usize, read: &Result<Progress, Refusal>) -> bool
+// Whether a body that was read from place p up to `end` is a long one.
+pub fn is_long(p: usize, end: usize) -> bool
     requires { p ≤ most_tokens }
-    ensures { result ≡ ltb (p + short_body) (cursor_at read.now) }
+    ensures { result ≡ ltb (p + short_body) end }
 {
-    names::is_long(p, cursor_of(read))
+    names::is_long(p, end)
 }
 
-// What was read from place p on, unless a label in it has a name that stands again: then that label is refused. What is read before a label does not hang on names, so
-// they can be looked at behind it all, in one walk over the tokens.
+// Whether each label from place p on and before `end`, where reading stopped, has a name of its own; else the first that has not is refused. What is read before a label does
+// not hang on names, so they can be looked at behind it all, in one walk over the tokens: who read goes on with what was read, unless a label is refused here (`and`; where his
+// refusals are of another type, this one is mapped to it first).
 //
 // Each of the two readers of a body asks for it itself where reading is strict, and tells short bodies from long ones. Called at one place the compiler would make a part
 // of that reader of it, with its room for names: mode 0 would need that room too, and each short body would touch the pages of a long one's.
 //
-// `FromDoor` is a clause: `Source` can be made of a list that no door wrote. The bounds are clauses, since p and what was read change from call to call.
-pub fn named_once(
-    source: &Source,
-    p: usize,
-    read: Result<Progress, Refusal>,
-) -> Result<Progress, Refusal>
+// `FromDoor` is a clause: `Source` can be made of a list that no door wrote. The bounds are clauses, since p and `end` change from call to call.
+pub fn named_once(source: &Source, p: usize, end: usize) -> Result<(), Refusal>
     requires from_door { FromDoor source.now.tokens.now source.now.kept.now }
-    requires p_le_most_tokens { (p ≤ most_tokens) × (cursor_at read ≤ most_tokens) × (cursor_at read ≤ p + short_body) }
-    ensures { result ≡ named_once (all source.now) p read }
+    requires p_le_most_tokens { (p ≤ most_tokens) × (end ≤ most_tokens) × (end ≤ p + short_body) }
+    ensures { result ≡ named_before (all source.now) p end }
 {
-    let again = first_again(source, p, cursor_of(&read));
-    judged(read, again)
+    judged(end, first_again(source, p, end))
 }
 
 // The same of a long body.
-pub fn named_once_long(
-    source: &Source,
-    p: usize,
-    read: Result<Progress, Refusal>,
-) -> Result<Progress, Refusal>
+pub fn named_once_long(source: &Source, p: usize, end: usize) -> Result<(), Refusal>
     requires from_door { FromDoor source.now.tokens.now source.now.kept.now }
-    requires p_le_most_tokens { (p ≤ most_tokens) × (cursor_at read ≤ most_tokens) }
-    ensures { result ≡ named_once (all source.now) p read }
+    requires p_le_most_tokens { (p ≤ most_tokens) × (end ≤ most_tokens) }
+    ensures { result ≡ named_before (all source.now) p end }
 {
-    let again = first_again_long(source, p, cursor_of(&read));
-    judged(read, again)
+    judged(end, first_again_long(source, p, end))
 }

@@ -7,7 +7,7 @@ ghost use Rattle.statements.specs.Call.{BodyCall};
 ghost use Rattle.statements.specs.Settled.{Settled, BodyTaken};
 ghost use Rattle.tokens.specs.Source.{all};
 
-use crate::body::{is_long, named_once, named_once_long, parse_body};
+use crate::body::{cursor_of, is_long, named_once, named_once_long, parse_body};
 use crate::choice::{Edition, Mode, UnknownEdition, UnknownMode};
 use crate::item::Progress;
 use crate::length::plain_length;
@@ -103,7 +103,8 @@ fn settle(
     match read {
         Err(refusal) => {
             clear_both(statements, arguments);
-            let told = type_told(source, &refusal);
+            let at = refusal.at();
+            let told = type_told(source, refusal.number(), at);
             Err(BodyError::Refused(refusal, told))
         }
         Ok(t) => {
@@ -152,12 +153,13 @@ fn reading(
         arguments: 0,
     };
     let body = parse_body(source, strict, s, statements, arguments, none);
+    let end = cursor_of(&body);
     let read = if !strict {
         body
-    } else if is_long(start, &body) {
-        named_once_long(source, start, body)
+    } else if is_long(start, end) {
+        named_once_long(source, start, end).and(body)
     } else {
-        named_once(source, start, body)
+        named_once(source, start, end).and(body)
     };
     settle(source, short, start, read, statements, arguments)
 }

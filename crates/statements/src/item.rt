@@ -68,10 +68,10 @@ pub enum StatementType {
     Code = 9,
 }
 
-// A statement's eight words.
+// A statement's eight words. Its type is a number here as the others are: `put_statement` writes any.
 #[derive(Clone, Copy)]
 pub struct Statement {
-    pub ty: StatementType,
+    pub ty: u32,
     pub first: u32,
     pub end: u32,
     pub inner: u32,
@@ -215,7 +215,7 @@ pub fn put_statement(statements: &mut [u32], n: usize, s: Statement)
     ensures { statements.new ≡ put statement_width statements.old n (statement_words s) }
 {
     let words = [
-        s.ty as u32,
+        s.ty,
         s.first,
         s.end,
         s.inner,
@@ -245,7 +245,7 @@ fn put_simple(
     let inner = (before.statements + s.statements + 1) as u32;
     let argument = (before.arguments + s.arguments) as u32;
     let words = Statement {
-        ty,
+        ty: ty as u32,
         first,
         end: end as u32,
         inner,

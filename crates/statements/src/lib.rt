@@ -7,7 +7,7 @@ mod entry;
 mod item;
 mod length;
 
-pub use body::{is_long, named_once, named_once_long, parse_body};
+pub use body::{cursor_of, is_long, named_once, named_once_long, parse_body};
 pub use choice::{Edition, Mode, UnknownEdition, UnknownMode};
 pub use entry::{BodyError, BodyRead, read_body};
 pub use item::{Progress, Statement, StatementType, put_statement};

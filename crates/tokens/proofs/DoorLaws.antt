@@ -1,17 +1,15 @@
 -- The door's walks over the tokens, a turn at a time, and what its answers mean. Assumes nothing.
-use Prim.Native.Nat.{ℕ, zero, suc, ◌+◌, ◌-◌, ◌*◌, ◌/◌, ◌≤◌, ◌<◌}
+use Prim.Native.Nat.{ℕ, zero, suc, ◌+◌, ◌-◌, ◌*◌, ◌≤◌, ◌<◌}
 use mathlib.Core.Path.{◌≡◌, refl, sym, ap, ◌∙◌}
 use mathlib.Core.Bool.{Bool, true, false, cond, not, ◌&&◌, and-true, and-false, true≢false, false≢true}
 use borrow.Author.Tests.{not-true, ltb-true, ltb-false, leb-true, eqb-true, lt-ltb, le-ltb, le-leb, eq-eqb, ne_eqb}
 use lib.Dec.{ltb, leb, eqb}
 use mathlib.Core.List.{List, [], ◌∷◌, ◌++◌, append-nil}
 use mathlib.Core.Logic.{⊎_elim}
-use native.Mathlib.Nat.{eq-or-lt_of_le, add-zero, zero-add, zero-mul, sub-zero}
+use native.Mathlib.Nat.{eq-or-lt_of_le, add-zero, sub-zero}
 use native.Mathlib.Omega.{arith}
 use native.Mathlib.Numerals.{add-one}
-use lib.ListN.{length, get_or, set, take, drop, drop_of_length-le, length-take}
-use Rattle.std.proofs.lemmas.List.{get_or-take, get_or-drop, drop-drop, length-drop, take_all}
-use Rattle.std.specs.Simd.{first_chunks}
+use lib.ListN.{length, get_or, set, take, drop, drop_of_length-le}
 use lib.Seq.{sets, set-set, sets-eq, length-take-le}
 use Rattle.tokens.specs.Kind.{Eof, kinds}
 use Rattle.tokens.specs.Literal.{is_literal}
@@ -441,14 +439,6 @@ pub record Stands (words : List ℕ) (i : ℕ) (four : List ℕ) : Type 0 where
   end : get_or four 2 0 ≡ end_of words i
   extra : get_or four 3 0 ≡ extra_of words i
 
--- word j of four number i
-chunk_word : (n : ℕ) (ws : List ℕ) (i j : ℕ) → i < n → j < 4 → get_or (get_or (first_chunks 4 n ws) i []) j 0 ≡ get_or ws (i * 4 + j) 0
-chunk_word zero ws i j h k = absurd (omega arith)
-chunk_word (suc n) ws zero j h k = rw (zero-mul, zero-add) (get_or-take 4 ws j 0 k)
-chunk_word (suc n) ws (suc i) j h k =
-    let next : 4 + (i * 4 + j) ≡ suc i * 4 + j = omega arith in
-    chunk_word n (drop 4 ws) i j (omega arith) k ∙ get_or-drop 4 ws (i * 4 + j) 0 ∙ ap (λ (m : ℕ). get_or ws m 0) next
-
 -- the words of a list that is good as a whole are four a token
 whole_words : (text words : List ℕ) → whole_good text words ≡ true → length words ≡ token_count words * 4
 whole_words text words e = omega (arith, (whole_says text words e).four)
@@ -461,74 +451,30 @@ pub record Walked (text words : List ℕ) (count prev i : ℕ) : Type 0 where
   pub counts : count + length (kept_from words (token_count words - i) i) ≡ 1 + length (kept_of words)
   pub each : (j : ℕ) → j < i → Sound text words false j
 
--- the walk stands at the first of the fours that are left: i are behind it
-pub record Left (text words : List ℕ) (fours left : List (List ℕ)) (count prev : ℕ) : Type 0 where
+-- the four words from a place on
+abbrev words_at : List ℕ → ℕ → List ℕ
+words_at words at = get_or words at 0 ∷ get_or words (at + 1) 0 ∷ get_or words (at + 2) 0 ∷ get_or words (at + 3) 0 ∷ []
+
+-- the walk stands at these words, which are those of token number i
+pub record Placed (text words : List ℕ) (count prev at : ℕ) : Type 0 where
   pub i : ℕ
+  pub place : i * 4 ≡ at
   pub walked : Walked text words count prev i
-  pub behind : i ≤ length fours
-  pub left_is : left ≡ drop i fours
 
-module _ {text words : List ℕ} {fours left : List (List ℕ)} {count prev : ℕ} (l : Left text words fours left count prev) where
-  left_length : length left ≡ length fours - l.i
-  left_length = ap length l.left_is ∙ length-drop l.i fours
+module _ {text words : List ℕ} {count prev at : ℕ} (l : Placed text words count prev at) where
+  pub placed_stands : Stands words l.i (words_at words at)
+  placed_stands = record { kind = rw l.place; start = rw l.place; end = rw l.place; extra = rw l.place }
 
-  pub some_left : 1 ≤ length left → l.i < length fours
-  some_left h = omega (arith, left_length)
-
-  pub none_left : length left < 1 → length fours ≤ l.i
-  none_left h = omega (arith, left_length)
-
-  first_left : get_or left 0 [] ≡ get_or fours l.i []
-  first_left = ap (λ (ts : List (List ℕ)). get_or ts 0 []) l.left_is ∙ get_or-drop l.i fours 0 [] ∙ rw add-zero
+  pub placed_next : {count' prev' : ℕ} → Walked text words count' prev' (l.i + 1) → Placed text words count' prev' (at + 4)
+  placed_next w = record { i = l.i + 1; place = omega (arith, l.place); walked = w }
 
 module _ (text words : List ℕ) (whole : whole_good text words ≡ true) where
-  -- a list has a last token
-  pub no_last : length words < 4 → ⊥
-  no_last h = omega (arith, (whole_says text words whole).some)
+  -- the place tells whether it is the last one
+  pub before_last : {count prev at : ℕ} (l : Placed text words count prev at) → at < length words - 4 → l.i + 1 < token_count words
+  before_last l h = omega (arith, l.place, whole_words text words whole)
 
-  -- the others, by fours
-  module _ (others : List ℕ) (fours : List (List ℕ)) (front : others ≡ take (length words - 4) words) (by_fours : fours ≡ first_chunks 4 (length others / 4) others)
-      (many : length fours ≡ length others / 4) where
-    few_others : length others ≡ length words - 4
-    few_others = rw front (length-take (length words - 4) words ∙ omega arith)
-
-    one_less : length fours + 1 ≡ token_count words
-    one_less = omega (arith, many, few_others, whole_words text words whole, (whole_says text words whole).some)
-
-    pub not_last : (i : ℕ) → i < length fours → i + 1 < token_count words
-    not_last i h = omega (arith, one_less)
-
-    pub is_last : (i : ℕ) → i < token_count words → length fours ≤ i → i + 1 ≡ token_count words
-    is_last i k h = omega (arith, one_less)
-
-    word_is : (i j : ℕ) → i < length fours → j < 4 → get_or (get_or fours i []) j 0 ≡ get_or words (i * 4 + j) 0
-    word_is i j h k =
-        let early : i * 4 + j < length words - 4 = omega (arith, one_less, whole_words text words whole) in
-        ap (λ (ts : List (List ℕ)). get_or (get_or ts i []) j 0) by_fours
-        ∙ chunk_word (length others / 4) others i j (omega (arith, many)) k
-        ∙ ap (λ (ws : List ℕ). get_or ws (i * 4 + j) 0) front
-        ∙ get_or-take (length words - 4) words (i * 4 + j) 0 early
-
-    pub other_stands : (i : ℕ) → i < length fours → Stands words i (get_or fours i [])
-    other_stands i h =
-        record {
-          kind = word_is i 0 h (omega arith) ∙ rw add-zero;
-          start = word_is i 1 h (omega arith);
-          end = word_is i 2 h (omega arith);
-          extra = word_is i 3 h (omega arith);
-        }
-
-    -- the first of those that are left
-    pub left_stands : {left : List (List ℕ)} {count prev : ℕ} (l : Left text words fours left count prev) → 1 ≤ length left → Stands words l.i (get_or left 0 [])
-    left_stands l h = rw (first_left l) (other_stands l.i (some_left l h))
-
-  pub last_stands : (last : List ℕ) (i : ℕ) → last ≡ drop (length words - 4) words → i + 1 ≡ token_count words → Stands words i last
-  last_stands last i e end = record { kind = word 0 ∙ rw add-zero; start = word 1; end = word 2; extra = word 3 }
-    where
-      word : (j : ℕ) → get_or last j 0 ≡ get_or words (i * 4 + j) 0
-      word j =
-          let place : length words - 4 ≡ i * 4 = omega (arith, end, whole_words text words whole) in
-          rw (e, get_or-drop (length words - 4) words j 0, place)
+  pub at_last : {count prev at : ℕ} (l : Placed text words count prev at) → length words - 4 ≤ at → l.i + 1 ≡ token_count words
+  at_last l h = omega (arith, l.place, l.walked.inside, whole_words text words whole)
 
   -- before the first token
   pub walk_start : Walked text words 1 0 0
@@ -545,21 +491,8 @@ module _ (text words : List ℕ) (whole : whole_good text words ≡ true) where
       none : (j : ℕ) → j < 0 → ⊥
       none j h = omega arith
 
-  -- all are left
-  pub left_start : (fours : List (List ℕ)) → Left text words fours fours 1 0
-  left_start fours = record { i = 0; walked = walk_start; behind = omega arith; left_is = refl }
-
-  -- one less is left
-  pub left_next : {fours left : List (List ℕ)} {count prev count' prev' : ℕ} (l : Left text words fours left count prev) → 1 ≤ length left
-      → Walked text words count' prev' (l.i + 1)
-      → Left text words fours (take (length left - 1) (drop 1 left)) count' prev'
-  left_next {fours} {left} l h w =
-      record {
-        i = l.i + 1;
-        walked = w;
-        behind = omega (arith, some_left l h);
-        left_is = take_all (length left - 1) (drop 1 left) (omega (arith, length-drop 1 left)) ∙ ap (drop 1) l.left_is ∙ drop-drop 1 l.i fours;
-      }
+  pub placed_first : Placed text words 1 0 0
+  placed_first = record { i = 0; place = refl; walked = walk_start }
 
   module _ {count prev i : ℕ} (w : Walked text words count prev i) {four : List ℕ} (t : Stands words i four) where
     -- what the token is asked, as the last one or as another

@@ -13,6 +13,8 @@ use Rattle.std.specs.Prelude.{Option, Some, None, Result, Ok, Err}
 use Rattle.tokens.specs.declared.door.Unready.{Unready}
 use Rattle.tokens.specs.declared.door.Unready.TheVariants.{NotWellFormed, KeptTooShort, StartOutside}
 use Rattle.tokens.specs.Place.{KindAt}
+use Rattle.tokens.specs.Refusal.{wrong_number, wrong_of, wrong_again}
+use Rattle.tokens.specs.declared.refusal.Wrong.{Wrong}
 use Rattle.tokens.specs.Door.{values, Prepared}
 
 -- a promise that says what the answer is, or what a lent table holds afterwards: `r ≡ x`
@@ -45,6 +47,10 @@ one_type a b p q = sym (again a) ∙ ap told (one_answer p q) ∙ again b
     again (Some (types.Uint bits)) = refl
     again (Some (types.Int bits)) = refl
     again (Some (types.BytesN bytes)) = refl
+
+-- the promise of `Refusal::wrong`: no two kinds of wrong have the same number
+pub one_wrong : (a b : Wrong) {n : ℕ} → wrong_number a ≡ n → wrong_number b ≡ n → a ≡ b
+one_wrong a b p q = sym (wrong_again a) ∙ ap wrong_of (one_answer p q) ∙ wrong_again b
 
 -- no two answers of the door have the same number and cursor
 pub one_door : (a b : Result ℕ Unready) → values a ≡ values b → a ≡ b

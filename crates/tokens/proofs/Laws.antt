@@ -121,6 +121,10 @@ pos_of_ne {n} h = ⊎_elim (λ (e : n ≡ 0). absurd (h e)) (λ (p : 0 < n). p) 
 pub record_inside : (len n w : ℕ) → 0 < w → n < len / w → n * w + w ≤ len
 record_inside len n w p h = rw suc-mul at (start_inside len (suc n) w p h)
 
+-- a run of words that is written to its end
+pub sets_done : (t ws : List ℕ) (at i : ℕ) → length ws ≤ i → sets t at (drop i ws) ≡ t
+sets_done t ws at i h = rw (drop_of_length-le ws h)
+
 -- a record of no words changes nothing
 pub put_empty : (t ws : List ℕ) (n w : ℕ) → w ≡ 0 → length ws ≡ w → t ≡ put w t n ws
 unfolding put

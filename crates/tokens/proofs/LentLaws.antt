@@ -4,7 +4,7 @@ use mathlib.Core.Path.{◌≡◌, refl, sym, ap, ◌∙◌}
 use mathlib.Core.List.{List, [], ◌∷◌, ◌++◌, append_assoc, append-nil, flatten}
 use mathlib.Core.Logic.{⊎_elim}
 use native.Mathlib.Omega.{arith}
-use native.Mathlib.Nat.{add-sub_cancel_left, add_comm, add-zero, zero-add, add-suc, suc-add, add_assoc, suc-mul, zero-mul, one-mul, sub-zero, add-mul, mul-le-mul_right, add-mul-div_right, div-lt_iff_lt-mul, le-div_iff_mul-le, le_of_eq, le_of_lt, sub-eq-zero_of_le, zero-div}
+use native.Mathlib.Nat.{add_comm, add-zero, zero-add, add-suc, suc-add, add_assoc, suc-mul, zero-mul, one-mul, sub-zero, add-mul, mul-le-mul_right, add-mul-div_right, div-lt_iff_lt-mul, le-div_iff_mul-le, le_of_eq, le_of_lt, sub-eq-zero_of_le, zero-div}
 use lib.ListN.{length, take, drop, set, replicate, length-append, length-drop, take-append-drop, drop_of_length-le}
 use lib.Seq.{sets, length-sets, sets-eq, set_comm, take_at, take_all, length-take-le, drop-drop}
 use borrow.Rule.Slice.PartMut.{mid_of, put_mid}
@@ -130,12 +130,6 @@ back_is : (t u : List ℕ) (a : ℕ) → put_mid a (length t - a) t u ≡ take a
 back_is t u a =
     let rest : drop (length t - a) (drop a t) ≡ [] = drop_of_length-le (drop a t) (le_of_eq (length-drop a t)) in
     rw (rest, append-nil)
-
--- words copied into a part of a table stand there, one behind the other
-pub part_written : (t ws : List ℕ) (at : ℕ) → at + length ws ≤ length t → put_mid at (at + length ws - at) t ws ≡ sets t at ws
-part_written t ws at h =
-    rw (add-sub_cancel_left at (length ws), drop-drop (length ws) at t)
-    (sym (sets-eq ws t at h ∙ append_assoc (take at t) ws (drop (at + length ws) t)))
 
 -- what a reader writes into the rest of a table from record n on, counting from 0, is written into the table from n on
 pub rest_written : (w : ℕ) (rs : List (List ℕ)) (t : List ℕ) (n a : ℕ) → 0 < w → a ≡ min (n * w) (length t) → put_mid a (length t - a) t (put_all w (mid_of a (length t - a) t) 0 rs) ≡ put_all w t n rs

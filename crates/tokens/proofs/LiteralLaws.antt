@@ -191,7 +191,7 @@ behind_0x l = take (length l - 2) (drop 2 l)
 digits_are : (l : List ℕ) → length (behind_0x l) ≡ length l - 2
 digits_are l = ap length (rest_is l 2) ∙ length-drop 2 l
 
-not_short : (l : List ℕ) → length l < 3 → is_literal l ≡ false
+pub not_short : (l : List ℕ) → length l < 3 → is_literal l ≡ false
 unfolding is_literal
 not_short l h = simp (under 3 66 (length l) h, and-false)
 
@@ -377,13 +377,13 @@ mod_bytes : (v j k : ℕ) → v % 256 ^ (j + k) ≡ (v / 256 ^ k % 256 ^ j) * 25
 mod_bytes v j k = rw (pow-add 256 j k) (mod-mul v (pos j) (pos k))
 
 -- a quarter that is not zero has the highest significant byte, and every byte behind it is significant
-quarter_some : (v k q : ℕ) → k ≤ 24 → q ≡ v / 256 ^ k % 256 ^ 8 → (q ≡ 0 → ⊥) → significant q + k ≡ significant (v % 256 ^ (8 + k))
+pub quarter_some : (v k q : ℕ) → k ≤ 24 → q ≡ v / 256 ^ k % 256 ^ 8 → (q ≡ 0 → ⊥) → significant q + k ≡ significant (v % 256 ^ (8 + k))
 quarter_some v k q h e p =
     let below : q < 256 ^ 8 = rw e (mod-lt (v / 256 ^ k) (pos 8)) in
     sym (rw (mod_bytes v 8 k, ← e) (significant_more q k (v % 256 ^ k) (omega arith) below h (mod-lt v (pos k))))
 
 -- a quarter of zero counts for nothing
-quarter_none : (v k q : ℕ) → q ≡ v / 256 ^ k % 256 ^ 8 → q ≡ 0 → v % 256 ^ (8 + k) ≡ v % 256 ^ k
+pub quarter_none : (v k q : ℕ) → q ≡ v / 256 ^ k % 256 ^ 8 → q ≡ 0 → v % 256 ^ (8 + k) ≡ v % 256 ^ k
 quarter_none v k q e z = rw (mod_bytes v 8 k, ← e, z, zero-mul, zero-add)
 
 -- two digits are a byte

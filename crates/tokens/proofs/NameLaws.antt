@@ -332,22 +332,3 @@ module _ (name : List ℕ) where
 
         pub type_none_lem : SizeIn (bytes "bytes") (multiples 1 widest_bytes) name None → ◌≡◌ {A = ℕ × ℕ} (type_none, 0) (type_of name)
         type_none_lem no-bytes = sym (past_int ∙ no-bytes type_bytes_n)
-
--- what is wrong otherwise has another number than 7
-pub other_wrong : (w : Wrong) → w ≢ wrong.InvalidTypeAsArgumentName → eqb (wrong_number w) InvalidTypeAsArgumentName ≡ false
-other_wrong wrong.UnexpectedType h = refl
-other_wrong wrong.InvalidDefinition h = refl
-other_wrong wrong.InvalidConstantValue h = refl
-other_wrong wrong.InvalidPush h = refl
-other_wrong wrong.InvalidTokenInMacroBody h = refl
-other_wrong wrong.InvalidTokenInLabelDefinition h = refl
-other_wrong wrong.InvalidTypeAsArgumentName h = absurd (h refl)
-other_wrong wrong.InvalidArgs h = refl
-other_wrong wrong.InvalidSingleArg h = refl
-other_wrong wrong.InvalidMacroArgs h = refl
-other_wrong wrong.InvalidTableBodyToken h = refl
-other_wrong wrong.InvalidConstant h = refl
-other_wrong wrong.InvalidArgCallIdent h = refl
-other_wrong wrong.DuplicateMacro h = refl
-other_wrong wrong.PoundAtTopLevel h = refl
-other_wrong wrong.DuplicateLabel h = refl

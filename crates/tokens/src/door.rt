@@ -134,32 +134,33 @@ fn count_good(text: &[u8], tokens: &[u32]) -> Option<usize>
     requires { whole_good text.now tokens.now ≡ true }
     ensures { result ≡ cond (ltb (first_bad text.now tokens.now) (token_count tokens.now)) None (Some (length (kept_of tokens.now))) }
 {
-    let (others, last) = tokens.split_last_chunk::<{ number::TOKEN_WIDTH }>()?;
-    let (others, _) = others.as_chunks::<{ number::TOKEN_WIDTH }>();
+    let last = tokens.len() - number::TOKEN_WIDTH;
     let mut count = 1;
     let mut prev: u32 = 0;
-    // No `for`: this loop has another in it, so the compiler would work out each token's address anew from its number, two instructions a token more and 5 in 100
-    // of the time on a list of half white space. With `rest @ ..` in the pattern it is one more.
-    let mut left = others;
-    while let [[kind, start, end, extra], ..] = left {
-        if *start < prev {
+    // By the place of a token's words, and no `for` or pattern over arrays of four words: with these the loop's jumps lie so that, at every other place where a linker can put the
+    // function, one of them is decoded anew for each token, and a list of comments takes half as long again (bench/README.md).
+    let mut at = 0;
+    while at < last {
+        let kind = tokens[at];
+        let start = tokens[at + 1];
+        let end = tokens[at + 2];
+        if start < prev {
             return None;
         }
-        if *end < *start {
+        if end < start {
             return None;
         }
-        if !contents_good(text, *kind, *start, *end, *extra) {
+        if !contents_good(text, kind, start, end, tokens[at + 3]) {
             return None;
         }
-        count += kept_one(*kind);
-        prev = *end;
-        left = &left[1..];
+        count += kept_one(kind);
+        prev = end;
+        at += number::TOKEN_WIDTH;
     }
-    let [kind, start, end, extra] = last;
-    if !range_good(text.len(), prev, *start, *end) {
+    if !range_good(text.len(), prev, tokens[at + 1], tokens[at + 2]) {
         return None;
     }
-    if !last_good(*kind, *extra) {
+    if !last_good(tokens[at], tokens[at + 3]) {
         return None;
     }
     Some(count)

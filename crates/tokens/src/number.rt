@@ -1,5 +1,5 @@
-// Numbers of document 01 and of its change requests by name, but for the kinds of a token and for what is an enum with these numbers (`Wrong`, `LexemeError`, `Form`,
-// `Location`, `StatementType`, `DefinitionKind`, `FunctionType`): other refusals, an answer's length, modes, editions, absent words of a record, widths and limits.
+// Numbers of document 01 and of its change requests by name, but for the kinds of a token and for what is a public enum with these numbers (`Wrong`, `LexemeError`,
+// `StatementType`, `DefinitionKind`). The enums `Form`, `Location` and `FunctionType` are inside their crates, and have their numbers from here, as who reads a record has. Other refusals, an answer's length, modes, editions, absent words of a record, widths and limits.
 
 // Refusals of a call that reads nothing, or has no room. `simmerotter` alone writes them, into the answer that C lends. They stand here as in specs/Number, by which the door's
 // definition (specs/Door) tells 30, 35 and 31.
@@ -62,13 +62,41 @@ pub const EDITION_FIRST: u32 = 1;
 
 pub const EDITION_SECOND: u32 = 2;
 
+// A function's type, as A of its record has it.
+pub const FUNCTION_VIEW: u32 = 1;
+
+pub const FUNCTION_PURE: u32 = 2;
+
+pub const FUNCTION_PAYABLE: u32 = 3;
+
+pub const FUNCTION_NON_PAYABLE: u32 = 4;
+
 // What a constant's value is. Constants, since `ConstVal` (definitions) holds a place in each variant, so none of it can be written out by `as u32`.
 pub const VALUE_LITERAL: u32 = 1;
 
 pub const VALUE_POINTER: u32 = 2;
 
-// No location.
+// The forms of an argument, as its record has them.
+pub const ARGUMENT_NAME: u32 = 1;
+
+pub const ARGUMENT_STRING: u32 = 2;
+
+pub const ARGUMENT_LITERAL: u32 = 3;
+
+pub const ARGUMENT_CALL_LITERAL: u32 = 4;
+
+pub const ARGUMENT_CALL_NAME: u32 = 5;
+
+pub const ARGUMENT_CALL_ANGLED: u32 = 6;
+
+// An argument's location.
 pub const LOCATION_NONE: u32 = 0;
+
+pub const LOCATION_CALLDATA: u32 = 1;
+
+pub const LOCATION_MEMORY: u32 = 2;
+
+pub const LOCATION_STORAGE: u32 = 3;
 
 // What absent places hold, and the plain length of a body that has none.
 pub const NONE: u32 = u32::MAX;

@@ -22,8 +22,8 @@ pub enum Wrong {
     DuplicateLabel = 22,
 }
 
-// Contracts see its number and its cursor. No Copy and no comparison are derived: with a model both want the fields back from what is seen.
-#[derive(Drop, Debug)]
+// Contracts see its number and its cursor, and have the fields back from these.
+#[derive(Clone, Copy, Debug)]
 pub struct Refusal {
     why: Wrong,
     at: usize,
@@ -31,11 +31,15 @@ pub struct Refusal {
 
 impl Model for Refusal {
     ghost use Rattle.std.specs.Prelude.{ℕ};
-    ghost use Rattle.tokens.specs.Refusal.{wrong_number};
+    ghost use Rattle.tokens.specs.Refusal.{wrong_number, wrong_of, wrong_again};
 
     ghost Value = { ℕ × ℕ };
 
     ghost view = { λ r. (wrong_number r.why, r.at) };
+
+    ghost inverse = { λ seen. record { why = wrong_of seen.0; at = seen.1 } };
+
+    ghost inverse_ok = { λ r h i. record { why = wrong_again r.why i; at = r.at } };
 }
 
 impl Refusal {

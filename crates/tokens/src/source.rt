@@ -9,15 +9,17 @@ use crate::part::part_of;
 // the door promises (`FromDoor`: at most 65,536 as well, and one behind the other in the text): the accessors by place, which docs/PROMISES.md names, ask no more of the kept list,
 // and may ask no more, so a `Source` can be made of a list that no door wrote. What a reader needs beyond is therefore in clauses: `FromDoor`, `Place`, and above `Reading`, `Counting`.
 // The three slices are those that C lends.
+//
+// Two lifetimes: what `text_at` answers is lent of the text alone, and outlives tokens and kept list.
 #[derive(Clone, Copy)]
-pub struct Source<'a> {
+pub struct Source<'a, 'b> {
     pub text: &'a [u8],
-    pub tokens: &'a [u32],
-    pub kept: &'a [u32],
+    pub tokens: &'b [u32],
+    pub kept: &'b [u32],
     ghost numbered: { Numbered tokens.now kept.now },
 }
 
-impl<'a> Source<'a> {
+impl<'a, 'b> Source<'a, 'b> {
     ghost use Rattle.std.specs.Prelude.{◌≡◌, ◌+◌, ◌*◌, ◌≤◌, ◌<◌, length, get_or};
     ghost use Rattle.tokens.specs.Number.{token_width};
     ghost use Rattle.tokens.specs.Token.{positions};

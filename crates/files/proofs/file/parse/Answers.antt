@@ -25,14 +25,14 @@ pub returns-then-check_duplicate : goal.returns-then-check_duplicate
 returns-then-check_duplicate c =
     rw c.new-then-check_duplicate.ensures
     (loop_repeats c.loop-read.invariant c.kind_at.ensures c.if-kind_at-eq-EOF.false c.next_definition.ensures c.in_ok-next.next c.in_ok-next.was
-    (sym c.is_named.ensures ∙ c.if-is_named.true) c.check_duplicate.ensures c.if-check_duplicate.true)
+    (sym c.is_named.ensures ∙ c.if-is_named.true) c.check_duplicate.ensures.checked c.if-check_duplicate.true)
 
 pub loop-read-preserved : goal.loop-read-preserved
 loop-read-preserved c = elim c.else-is_named.branch [
   | else-is_named-via-then-is_named+else-check_duplicate w ↦
       rw w.names-is
       (loop_macro c.loop-read.invariant c.kind_at.ensures c.if-kind_at-eq-EOF.false c.next_definition.ensures c.in_ok-next.next c.in_ok-next.was
-      (sym c.is_named.ensures ∙ w.if-is_named.true) w.check_duplicate.ensures w.if-check_duplicate.false)
+      (sym c.is_named.ensures ∙ w.if-is_named.true) w.check_duplicate.ensures.checked w.if-check_duplicate.false)
   | else-is_named-via-else-is_named w ↦
       rw w.names-is
       (loop_other c.loop-read.invariant c.kind_at.ensures c.if-kind_at-eq-EOF.false c.next_definition.ensures c.in_ok-next.next c.in_ok-next.was

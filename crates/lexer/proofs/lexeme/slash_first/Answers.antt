@@ -6,13 +6,12 @@ use native.Mathlib.Omega.{arith}
 use borrow.Author.Tests.{ne_eqb, lt-ltb, le-ltb}
 use lib.ListN.{length, drop}
 use Rattle.std.proofs.lemmas.List.{take_rest}
-use Rattle.lexemes.specs.Bytes.{in_line}
 use Rattle.lexemes.specs.Reader.{opened, slash}
 use Rattle.lexer.proofs.lexeme.slash_first.Goals as goal
 
 pub returns-in-47 : goal.returns-in-47
 unfolding slash
-returns-in-47 c = c.found.ensures ∙ rw (← c.byte_at.ensures, c.in-47.is, c.run_of.ensures.value in_line (λ b r l e. e))
+returns-in-47 c = c.found.ensures ∙ rw (← c.byte_at.ensures, c.in-47.is, c.line_of.ensures.value)
 
 pub returns-in-Some : goal.returns-in-Some
 unfolding slash

@@ -6,4 +6,4 @@ pub returns-in_err-untyped_name : goal.returns-in_err-untyped_name
 returns-in_err-untyped_name c = untyped_handed c.args.source.now _ c.kind_at.ensures c.location_of-location.ensures c.is_some.ensures c.from.ensures c.untyped_name.ensures c.in_err-untyped_name.was c.from_residual.ensures.1
 
 pub returns : goal.returns
-returns c = untyped_answers c.args.source.now _ c.kind_at.ensures c.location_of-location.ensures c.is_some.ensures c.from.ensures c.untyped_name.ensures c.one_token.result c.in_ok-untyped_name.was c.one_token.ensures
+returns c = untyped_answers c.args.source.now _ c.kind_at.ensures c.location_of-location.ensures c.is_some.ensures c.from.ensures c.untyped_name.ensures c.one_token.result c.in_ok-untyped_name.was c.one_token.ensures.reading c.one_token.ensures.told

@@ -11,11 +11,11 @@ loop-q-preserved-then-kind_at-ne-LABEL c = walk_other _ _ _ c.loop-q.invariant c
 
 pub returns-then-check_duplicate : goal.returns-then-check_duplicate
 returns-then-check_duplicate c =
-    walk_found _ _ _ c.loop-q.invariant c.loop-q-test.true c.kind_at.ensures c.if-kind_at-ne-LABEL.false c.check_duplicate.ensures c.if-check_duplicate.true
+    walk_found _ _ _ c.loop-q.invariant c.loop-q-test.true c.kind_at.ensures c.if-kind_at-ne-LABEL.false c.check_duplicate.ensures.checked c.if-check_duplicate.true
 
 pub loop-q-preserved : goal.loop-q-preserved
 loop-q-preserved c =
-    walk_new _ _ _ c.loop-q.invariant c.loop-q-test.true c.kind_at.ensures c.if-kind_at-ne-LABEL.false c.check_duplicate.ensures c.if-check_duplicate.false
+    walk_new _ _ _ c.loop-q.invariant c.loop-q-test.true c.kind_at.ensures c.if-kind_at-ne-LABEL.false c.check_duplicate.ensures.checked c.if-check_duplicate.false
 
 pub returns : goal.returns
 returns c = walk_ends _ _ _ c.loop-q.invariant c.loop-q-test.false

@@ -10,4 +10,4 @@ pub returns-then-arguments-n : goal.returns-then-arguments-n
 returns-then-arguments-n c = rw c.in-Ok.is (record { answer = rw (le-ltb _ _ c.if-statements-m.false, lt-ltb _ _ c.if-arguments-n.true); statements_hold = rw cleared_none c.clear_both-then-arguments-n.ensures.0; arguments_hold = rw cleared_none c.clear_both-then-arguments-n.ensures.1 })
 
 pub returns-in-Err : goal.returns-in-Err
-returns-in-Err c = rw c.in-Err.is (record { answer = (c.type_told-told.result, refl, c.type_told-told.ensures); statements_hold = rw cleared_none c.clear_both.ensures.0; arguments_hold = rw cleared_none c.clear_both.ensures.1 })
+returns-in-Err c = rw c.in-Err.is (record { answer = (c.type_told-told.result, refl, rw (← c.number.ensures, ← c.at-at.ensures) c.type_told-told.ensures); statements_hold = rw cleared_none c.clear_both.ensures.0; arguments_hold = rw cleared_none c.clear_both.ensures.1 })

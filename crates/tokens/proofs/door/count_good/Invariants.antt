@@ -1,9 +1,10 @@
+use Prim.Native.Nat.{◌-◌}
 use lib.ListN.{length}
-use Rattle.tokens.proofs.DoorLaws.{Left}
+use Rattle.tokens.proofs.DoorLaws.{Placed}
 use Rattle.tokens.proofs.door.count_good.Given as goal
 
-abbrev pub invariant-loop-left : goal.invariant-loop-left
-invariant-loop-left l = Left l.text l.tokens l.initial.left l.left l.count l.prev
+abbrev pub invariant-loop-at : goal.invariant-loop-at
+invariant-loop-at l = Placed l.text l.tokens l.count l.prev l.at
 
-abbrev pub decreases-loop-left : goal.decreases-loop-left
-decreases-loop-left l = length l.left
+abbrev pub decreases-loop-at : goal.decreases-loop-at
+decreases-loop-at l = length l.tokens - l.at

@@ -16,8 +16,8 @@ invariant_of-self-3 c =
     let counted = names_length (all c.args.self.now.source.now) c.args.self.now.places.now c.args.self.now.count in
     record { noted = (remembered _ _ _ _ _ _ _ _ c.args.self.now.noted (omega arith) (omega arith) c.requires.p_lt_most_tokens c.requires.h_value c.bucket_of-b.ensures.value).0 }
 
-pub returns : goal.returns
-returns c =
+pub returns-clause-remembered : goal.returns-clause-remembered
+returns-clause-remembered c =
     let counted = names_length (all c.args.self.now.source.now) c.args.self.now.places.now c.args.self.now.count in
     let stored = remembered _ _ _ _ _ _ _ _ c.args.self.now.noted (omega arith) (omega arith) c.requires.p_lt_most_tokens c.requires.h_value c.bucket_of-b.ensures.value in
     simp (length-set, stored.1)
