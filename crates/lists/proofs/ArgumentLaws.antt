@@ -43,20 +43,26 @@ reads : {p size : ℕ} {x y : Res reading.Argument} {r : Result Argument (ℕ ×
 reads e h = rw e h
 
 refuses : {p size c q w : ℕ} {f : ℕ × ℕ} {x : Res reading.Argument} → x ≡ bad (plain c) w → f ≡ (c, q) → q ≡ w → ArgRead p size x (Err f)
-refuses {c = c} {w = w} e is h = rw (e, is) (record { is = ap (λ k. Err (c, k)) (h ∙ sym (add-zero w)); within = tt; told = tt })
+refuses {c = c} {w = w} e is h = rw (e, is) (record { is = ap (λ k. Err (c, k)) (h ∙ sym (add-zero w)); within = tt })
 
 answers : {p size n : ℕ} {x : Res reading.Argument} {a : reading.Argument} {g : Argument}
-    → x ≡ got a n → reading_of g ≡ a → Told g → a.end ≡ p + n → p < p + n → p + n ≤ size → ArgRead p size x (Ok g)
-answers {p} {size} {n} {x} {a} {g} e same told end low high =
+    → x ≡ got a n → reading_of g ≡ a → a.end ≡ p + n → p < p + n → p + n ≤ size → ArgRead p size x (Ok g)
+answers {p} {size} {n} {x} {a} {g} e same end low high =
     let ends : g.end ≡ p + n = ap (λ a. a.end) same ∙ end in
-    rw e (record { is = ap (λ a. Ok (a, a.end)) same ∙ ap (λ e. Ok (a, e)) end; within = (omega arith, omega arith); told = told })
+    rw e (record { is = ap (λ a. Ok (a, a.end)) same ∙ ap (λ e. Ok (a, e)) end; within = (omega arith, omega arith) })
 
--- an argument without a type and with the name at p, behind which it ends
-told_alone : (g : Argument) {p : ℕ} → (g.ty ≡ None) × (g.name ≡ Some p) → p < g.end → Told g
+-- what an argument tells is its own: the laws below go by its numbers alone, and who cites one of them can cite these beside it. First one without a type and with the name at p, behind
+-- which it ends
+pub told_alone : (g : Argument) {p : ℕ} → (g.ty ≡ None) × (g.name ≡ Some p) → p < g.end → Told g
 told_alone g {p} t h = (rw t.0 tt, rw t.1 h)
 
-ends : (g : Argument) {f p : ℕ} → reading_of g ≡ reading.one_token f p → p < g.end
+pub ends : (g : Argument) {f p : ℕ} → reading_of g ≡ reading.one_token f p → p < g.end
 ends g {f} {p} same = let e : g.end ≡ suc p = ap (λ (a : reading.Argument). a.end) same in omega arith
+
+-- then one with a type at p, and a name at q behind it if one stands there
+pub told_typed : {p q : ℕ} (named : Bool) (given : Argument) → given.ty ≡ Some p → given.name ≡ then_some named q → given.end ≡ q + from_bool named → p < q → Told given
+told_typed true given type name end h = (rw type (omega arith), rw name (omega arith))
+told_typed false given type name end h = (rw type (omega arith), rw name tt)
 
 -- a list's sort is known
 pub sorted : {p size : ℕ} {r : Result Argument (ℕ × ℕ)} {sort s : Sort} (n : ℕ) (ts : List Token) → sort ≡ s → ArgRead p size (one s n p ts) r → ArgRead p size (one sort n p ts) r
@@ -303,12 +309,12 @@ module _ (source : Source) {p k n l : ℕ} (o : Option Location) {b : Bool} (her
 
   pub untyped_handed : {f : ℕ × ℕ} {out : Result Argument (ℕ × ℕ)} → r ≡ Err f → IsErrAnd out (λ y. y ≡ f) → ArgRead p (count source) (name_argument n p (all_from source p)) out
   untyped_handed {f} {out} h handed =
-      rw (handed_on out handed) (record { is = (rw h at name).is (named (location_word o) p (p + l)) ∙ untyped_at; within = tt; told = tt })
+      rw (handed_on out handed) (record { is = (rw h at name).is (named (location_word o) p (p + l)) ∙ untyped_at; within = tt })
 
-  pub untyped_answers : {u : ⊤} (one : Argument) → r ≡ Ok u → reading_of one ≡ reading.one_token 1 (p + l) → (one.ty ≡ None) × (one.name ≡ Some (p + l))
+  pub untyped_answers : {u : ⊤} (one : Argument) → r ≡ Ok u → reading_of one ≡ reading.one_token 1 (p + l)
       → ArgRead p (count source) (name_argument n p (all_from source p))
       (Ok (record { form = one.form; ty = one.ty; name = one.name; indexed = one.indexed; location = o; first = p; end = one.end }))
-  untyped_answers {u} one h alone told =
+  untyped_answers {u} one h alone =
       let i = rw h at name in
       let end : one.end ≡ suc (p + l) = ap (λ a. a.end) alone in
       record {
@@ -318,7 +324,6 @@ module _ (source : Source) {p k n l : ℕ} (o : Option Location) {b : Bool} (her
             ∙ i.is (named (location_word o) p (p + l))
             ∙ untyped_at;
         within = (omega arith, omega (arith, i.within));
-        told = (rw told.0 tt, rw told.1 (ends one alone));
       }
 
 -- a typed argument
@@ -339,15 +344,15 @@ module _ (source : Source) {p t : ℕ} (first : KindAt source.tokens.now source.
         ∙ typed_is p (all source) events b o 0 (kind_is source.text.now p first refl ∙ typed) indexed (rw behind refl) (kind_is source.text.now (p + 1 + i) here refl) located (rw (width, stands) refl)
 
     pub typed_handed : {f : ℕ × ℕ} {out : Result Argument (ℕ × ℕ)} → x ≡ Err f → IsErrAnd out (λ y. y ≡ f) → ArgRead p (count source) (typed_argument events 0 p (all_from source p)) out
-    typed_handed {f} {out} h handed = rw (handed_on out handed) (record { is = rw h at as_read; within = tt; told = tt })
+    typed_handed {f} {out} h handed = rw (handed_on out handed) (record { is = rw h at as_read; within = tt })
 
     pub typed_answers : (named : Bool) {given : Argument} → x ≡ Ok named
         → given ≡ record { form = Name; ty = Some p; name = then_some named (p + 1 + i + l); indexed = b; location = o; first = p; end = (p + 1 + i + l) + from_bool named }
         → ArgRead p (count source) (typed_argument events 0 p (all_from source p)) (Ok given)
     typed_answers true h same =
-        rw same (record { is = ap (λ e. Ok (declared p (p + 1 + i + l) (from_bool b) (location_word o) e, (p + 1 + i + l) + 1)) (add-one (p + 1 + i + l)) ∙ rw h at as_read; within = (omega arith, (rw h at name).within); told = (omega arith, omega arith) })
+        rw same (record { is = ap (λ e. Ok (declared p (p + 1 + i + l) (from_bool b) (location_word o) e, (p + 1 + i + l) + 1)) (add-one (p + 1 + i + l)) ∙ rw h at as_read; within = (omega arith, (rw h at name).within) })
     typed_answers false h same =
-        rw same (record { is = ap (λ e. Ok (declared p reading.NONE (from_bool b) (location_word o) e, (p + 1 + i + l) + 0)) (add-zero (p + 1 + i + l)) ∙ rw h at as_read; within = (omega arith, (rw h at name).within); told = (omega arith, tt) })
+        rw same (record { is = ap (λ e. Ok (declared p reading.NONE (from_bool b) (location_word o) e, (p + 1 + i + l) + 0)) (add-zero (p + 1 + i + l)) ∙ rw h at as_read; within = (omega arith, (rw h at name).within) })
 
 -- ---- what each reader answers, by the kinds that were read
 
@@ -359,14 +364,14 @@ module _ (text : List ℕ) {words kept : List ℕ} {p k : ℕ} (here : KindAt wo
   kind_of e = kind_is text p here refl ∙ e
 
   -- an argument of a call
-  pub call_literal : (n : ℕ) {given : Argument} → k ≡ kind.Literal → reading_of given ≡ reading.one_token 4 p → (given.ty ≡ None) × (given.name ≡ Some p) → ArgRead p (length kept) (call_argument n p (tokens_from text words kept p)) (Ok given)
+  pub call_literal : (n : ℕ) {given : Argument} → k ≡ kind.Literal → reading_of given ≡ reading.one_token 4 p → ArgRead p (length kept) (call_argument n p (tokens_from text words kept p)) (Ok given)
   unfolding choose
-  call_literal n {given} e same told = answers (call_at p own n 40 (kind_of e)) same (told_alone given told (ends given same)) (omega arith) (omega arith) (omega (arith, here.inside))
+  call_literal n e same = answers (call_at p own n 40 (kind_of e)) same (omega arith) (omega arith) (omega (arith, here.inside))
 
-  pub call_named : (n : ℕ) {given : Argument} → (k ≡ kind.Calldata) ⊎ (k ≡ kind.Ident) → reading_of given ≡ reading.one_token 5 p → (given.ty ≡ None) × (given.name ≡ Some p) → ArgRead p (length kept) (call_argument n p (tokens_from text words kept p)) (Ok given)
+  pub call_named : (n : ℕ) {given : Argument} → (k ≡ kind.Calldata) ⊎ (k ≡ kind.Ident) → reading_of given ≡ reading.one_token 5 p → ArgRead p (length kept) (call_argument n p (tokens_from text words kept p)) (Ok given)
   unfolding choose
-  call_named n {given} e same told =
-      answers (⊎_elim (λ e. call_at p own n 23 (kind_of e)) (λ e. call_at p own n 38 (kind_of e)) e) same (told_alone given told (ends given same)) (omega arith) (omega arith)
+  call_named n e same =
+      answers (⊎_elim (λ e. call_at p own n 23 (kind_of e)) (λ e. call_at p own n 38 (kind_of e)) e) same (omega arith) (omega arith)
       (⊎_elim (λ (e : k ≡ 23). omega (arith, here.inside)) (λ (e : k ≡ 38). omega (arith, here.inside)) e)
 
   pub call_angled : (n : ℕ) {r : Result Argument (ℕ × ℕ)} → k ≡ kind.LeftAngle → ArgRead p (length kept) (with_one_more (angled_rest p (suc p) (tokens_from text words kept (suc p)))) r
@@ -392,19 +397,19 @@ module _ (text : List ℕ) {words kept : List ℕ} (p : ℕ) {k : ℕ} (here : K
     pub angled_open : {f : ℕ × ℕ} → (l ≡ kind.RightAngle → ⊥) → f ≡ (1, p + 2) → ArgRead p (length kept) (with_one_more (angled_rest p (suc p) (tokens_from text words kept (suc p)))) (Err f)
     angled_open h same = refuses (angle_open p (view text words kept) (first_is named) (λ e. h (sym (second_is refl) ∙ e))) same (add-two p)
 
-    pub angled_closed : {given : Argument} → l ≡ kind.RightAngle → reading_of given ≡ reading.angled p → Told given → ArgRead p (length kept) (with_one_more (angled_rest p (suc p) (tokens_from text words kept (suc p)))) (Ok given)
-    angled_closed e same told = answers (angle_closed p (view text words kept) (first_is named) (second_is e)) same told (omega arith) (omega arith) (omega (arith, there.inside))
+    pub angled_closed : {given : Argument} → l ≡ kind.RightAngle → reading_of given ≡ reading.angled p → ArgRead p (length kept) (with_one_more (angled_rest p (suc p) (tokens_from text words kept (suc p)))) (Ok given)
+    angled_closed e same = answers (angle_closed p (view text words kept) (first_is named) (second_is e)) same (omega arith) (omega arith) (omega (arith, there.inside))
 
 -- where the text is the source's own
 module _ (source : Source) {p k : ℕ} (here : KindAt source.tokens.now source.kept.now p k) where
   -- an argument of a builtin
-  pub builtin_string : (n : ℕ) {given : Argument} → k ≡ kind.Str → reading_of given ≡ reading.one_token 2 p → (given.ty ≡ None) × (given.name ≡ Some p) → ArgRead p (count source) (builtin_argument n p (all_from source p)) (Ok given)
+  pub builtin_string : (n : ℕ) {given : Argument} → k ≡ kind.Str → reading_of given ≡ reading.one_token 2 p → ArgRead p (count source) (builtin_argument n p (all_from source p)) (Ok given)
   unfolding choose
-  builtin_string n {given} e same told = answers (builtin_at p (all source) n 43 (kind_of source.text.now here e)) same (told_alone given told (ends given same)) (omega arith) (omega arith) (omega (arith, here.inside))
+  builtin_string n e same = answers (builtin_at p (all source) n 43 (kind_of source.text.now here e)) same (omega arith) (omega arith) (omega (arith, here.inside))
 
-  pub builtin_literal : (n : ℕ) {given : Argument} → k ≡ kind.Literal → reading_of given ≡ reading.one_token 3 p → (given.ty ≡ None) × (given.name ≡ Some p) → ArgRead p (count source) (builtin_argument n p (all_from source p)) (Ok given)
+  pub builtin_literal : (n : ℕ) {given : Argument} → k ≡ kind.Literal → reading_of given ≡ reading.one_token 3 p → ArgRead p (count source) (builtin_argument n p (all_from source p)) (Ok given)
   unfolding choose
-  builtin_literal n {given} e same told = answers (builtin_at p (all source) n 40 (kind_of source.text.now here e)) same (told_alone given told (ends given same)) (omega arith) (omega arith) (omega (arith, here.inside))
+  builtin_literal n e same = answers (builtin_at p (all source) n 40 (kind_of source.text.now here e)) same (omega arith) (omega arith) (omega (arith, here.inside))
 
   pub builtin_name : (n : ℕ) {r : Result Argument (ℕ × ℕ)} → (k ≡ kind.Str → ⊥) → (k ≡ kind.Literal → ⊥) → ArgRead p (count source) (name_argument n p (all_from source p)) r → ArgRead p (count source) (builtin_argument n p (all_from source p)) r
   builtin_name n a b h = reads (builtin_other p (all source) n k (kind_of source.text.now here refl) (a, (b, tt))) h

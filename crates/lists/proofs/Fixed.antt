@@ -5,7 +5,7 @@ use mathlib.Core.Path.{◌≡◌, refl, sym, ap, ◌∙◌}
 use mathlib.Core.Bool.{Bool, true, false, cond}
 use borrow.Author.Tests.{ne_eqb}
 use lib.Dec.{eqb}
-use Rattle.std.specs.Prelude.{Option, Some, None, Result, Ok, Err, IfSome}
+use Rattle.std.specs.Prelude.{Option, Some, None, Result, Ok, Err, IfOk, IfSome}
 use Rattle.std.specs.Int.{from_bool}
 use Rattle.grammar.specs.Reading.{NONE}
 use Rattle.grammar.specs.Reading as reading
@@ -15,7 +15,7 @@ use Rattle.lists.specs.declared.argument.Form.TheVariants.{Name, Str, Literal, C
 use Rattle.lists.specs.declared.argument.Location.{Location}
 use Rattle.lists.specs.declared.argument.Location.TheVariants.{Calldata, Memory, Storage}
 use Rattle.lists.specs.declared.argument.Argument.{Argument}
-use Rattle.lists.specs.Answers.{form_number, location_word, place_word, reading_of, answered, ArgRead}
+use Rattle.lists.specs.Answers.{form_number, location_word, place_word, reading_of, answered, Told, ArgRead}
 
 -- the code's argument, read off the grammar's
 abbrev form_of : ℕ → Form
@@ -66,20 +66,20 @@ abbrev read_back : Result (reading.Argument × ℕ) (ℕ × ℕ) → Result Argu
 read_back (Ok x) = Ok (argument_of x.0)
 read_back (Err f) = Err f
 
-again : {p size : ℕ} {x : Res reading.Argument} (r : Result Argument (ℕ × ℕ)) → size ≤ NONE → ArgRead p size x r → read_back (answered (λ a. (reading_of a, a.end)) r) ≡ r
-again (Ok a) low m =
+again : {p size : ℕ} {x : Res reading.Argument} (r : Result Argument (ℕ × ℕ)) → size ≤ NONE → ArgRead p size x r → IfOk r Told → read_back (answered (λ a. (reading_of a, a.end)) r) ≡ r
+again (Ok a) low m told =
     let end : a.end ≤ NONE = omega (arith, m.within, low) in
     ap Ok (λ i. record {
       form = form_again a.form i;
-      ty = place_again a.ty m.told.0 end i;
-      name = place_again a.name m.told.1 end i;
+      ty = place_again a.ty told.0 end i;
+      name = place_again a.name told.1 end i;
       indexed = bool_again a.indexed i;
       location = location_again a.location i;
       first = a.first;
       end = a.end;
     })
-again (Err f) low m = refl
+again (Err f) low m told = refl
 
 -- the promise of `one_argument`: the answer itself, of a list whose places are all below the number for none
-pub one_read : {p size : ℕ} {x : Res reading.Argument} (r r' : Result Argument (ℕ × ℕ)) → size ≤ NONE → ArgRead p size x r → ArgRead p size x r' → r ≡ r'
-one_read r r' low m n = sym (again r low m) ∙ ap read_back (m.is ∙ sym n.is) ∙ again r' low n
+pub one_read : {p size : ℕ} {x : Res reading.Argument} (r r' : Result Argument (ℕ × ℕ)) → size ≤ NONE → ArgRead p size x r → IfOk r Told → ArgRead p size x r' → IfOk r' Told → r ≡ r'
+one_read r r' low m told n told' = sym (again r low m told) ∙ ap read_back (m.is ∙ sym n.is) ∙ again r' low n told'

@@ -78,7 +78,7 @@ abbrev pub answered : {T : Type 0} → (T → reading.Argument × ℕ) → Resul
 answered f (Ok x) = Ok (f x)
 answered f (Err e) = Err e
 
--- a place that an argument tells is one of its own, and so no number that stands for an absent one
+-- a place that an argument tells is one of its own, and so no number that stands for an absent one: who reads an argument promises it beside `ArgRead`, which is of its numbers
 abbrev pub Told : Argument → Type 0
 Told a = IfSome a.ty (λ t. t < a.end) × IfSome a.name (λ n. n < a.end)
 
@@ -86,7 +86,6 @@ Told a = IfSome a.ty (λ t. t < a.end) × IfSome a.name (λ n. n < a.end)
 pub record ArgRead (p size : ℕ) (read : Res reading.Argument) (r : Result Argument (ℕ × ℕ)) : Type 0 where
   pub is : answered (λ a. (reading_of a, a.end)) r ≡ arg_answer p read
   pub within : IfOk r (λ a. (p < a.end) × (a.end ≤ size))
-  pub told : IfOk r Told
 
 -- a name at p, the last token of an argument whose first place and location are known
 abbrev pub named : ℕ → ℕ → ℕ → reading.Argument

@@ -1,5 +1,5 @@
 // One argument of a list, read from its first token; nothing is written here.
-ghost use Rattle.std.specs.Prelude.{ℕ, suc, ◌+◌, ◌<◌, ◌≤◌, List, ◌≡◌, MatchOption, Some, None};
+ghost use Rattle.std.specs.Prelude.{ℕ, suc, ◌+◌, ◌<◌, ◌≤◌, List, ◌≡◌, MatchOption, Some, None, IfOk};
 ghost use Rattle.std.specs.Int.{from_bool};
 ghost use Rattle.tokens.specs.Number.{most_tokens};
 ghost use Rattle.tokens.specs.Place.{Place, tokens_from};
@@ -91,8 +91,9 @@ fn angled_call(p: usize) -> Argument
 fn angled_rest(source: &Source, p: usize) -> Result<Argument, Refusal>
     requires place { Place source.now.tokens.now source.now.kept.now p }
     requires p_in_bounds { p < count source.now }
-    ensures { (text : List ℕ) → ArgRead p (count source.now)
+    ensures read { (text : List ℕ) → ArgRead p (count source.now)
         (with_one_more (angled_rest p (suc p) (tokens_from text source.now.tokens.now source.now.kept.now (suc p)))) result }
+    ensures told { IfOk result Told }
 {
     if source.kind_at(p + 1) != kind::IDENT {
         return Err(Refusal::new(Wrong::UnexpectedType, p + 1));
@@ -107,7 +108,8 @@ fn angled_rest(source: &Source, p: usize) -> Result<Argument, Refusal>
 #[tactic(auto, using(crate::proofs::ArgumentLaws::call_literal, crate::proofs::ArgumentLaws::call_named, crate::proofs::ArgumentLaws::call_refuses))]
 fn call_argument(source: &Source, p: usize) -> Result<Argument, Refusal>
     requires { Place source.now.tokens.now source.now.kept.now p }
-    ensures { (text : List ℕ) → ArgRead p (count source.now) (call_argument 0 p (tokens_from text source.now.tokens.now source.now.kept.now p)) result }
+    ensures read { (text : List ℕ) → ArgRead p (count source.now) (call_argument 0 p (tokens_from text source.now.tokens.now source.now.kept.now p)) result }
+    ensures told { IfOk result Told }
 {
     match source.kind_at(p) {
         kind::LITERAL => Ok(one_token(Form::CallLiteral, p)),
@@ -159,7 +161,8 @@ fn untyped_name(source: &Source, names: usize, p: usize) -> Result<(), Refusal>
 // An optional location, then a name.
 fn name_argument(source: &Source, names: usize, p: usize) -> Result<Argument, Refusal>
     requires { Place source.now.tokens.now source.now.kept.now p }
-    ensures { ArgRead p (count source.now) (name_argument names p (all_from source.now p)) result }
+    ensures read { ArgRead p (count source.now) (name_argument names p (all_from source.now p)) result }
+    ensures told { IfOk result Told }
 {
     let location = location_of(source.kind_at(p));
     let q = p + usize::from(location.is_some());
@@ -175,7 +178,8 @@ fn name_argument(source: &Source, names: usize, p: usize) -> Result<Argument, Re
 #[tactic(auto, using(crate::proofs::ArgumentLaws::builtin_string, crate::proofs::ArgumentLaws::builtin_literal, crate::proofs::ArgumentLaws::builtin_name))]
 fn builtin_argument(source: &Source, names: usize, p: usize) -> Result<Argument, Refusal>
     requires { Place source.now.tokens.now source.now.kept.now p }
-    ensures { ArgRead p (count source.now) (builtin_argument names p (all_from source.now p)) result }
+    ensures read { ArgRead p (count source.now) (builtin_argument names p (all_from source.now p)) result }
+    ensures told { IfOk result Told }
 {
     match source.kind_at(p) {
         kind::STR => Ok(one_token(Form::Str, p)),
@@ -217,7 +221,8 @@ fn indexed_here(source: &Source, events: bool, p: usize) -> bool
 #[tactic(auto, using(crate::proofs::ArgumentLaws::typeless))]
 fn typed_argument(source: &Source, events: bool, p: usize) -> Result<Argument, Refusal>
     requires { Place source.now.tokens.now source.now.kept.now p }
-    ensures { ArgRead p (count source.now) (typed_argument events 0 p (all_from source.now p)) result }
+    ensures read { ArgRead p (count source.now) (typed_argument events 0 p (all_from source.now p)) result }
+    ensures told { IfOk result Told }
 {
     if source.kind_at(p) != kind::PRIMITIVE_TYPE {
         return Err(Refusal::new(Wrong::InvalidArgs, p));
@@ -249,7 +254,8 @@ pub fn one_argument(
     p: usize,
 ) -> Result<Argument, Refusal>
     requires { Place source.now.tokens.now source.now.kept.now p }
-    ensures { ArgRead p (count source.now) (one sort names p (all_from source.now p)) result }
+    ensures read { ArgRead p (count source.now) (one sort names p (all_from source.now p)) result }
+    ensures told { IfOk result Told }
 {
     // A match and no closure for the reader: two crates name the sort, and a definition (`one`) goes by it.
     match sort {

@@ -44,13 +44,17 @@ cursor_at (Ok t) = t.at
 cursor_at (Err f) = f.1
 
 -- 22 at a label, if that is one before `end`
-abbrev pub judged_at : ℕ → ℕ → Result ⊤ (ℕ × ℕ)
-judged_at end at = cond (ltb at end) (Err (DuplicateLabel, at)) (Ok tt)
+abbrev pub judged_before : ℕ → ℕ → Result ⊤ (ℕ × ℕ)
+judged_before end at = cond (ltb at end) (Err (DuplicateLabel, at)) (Ok tt)
+
+-- what was read, or 22 at a label before its cursor
+abbrev pub judged_at : Result Progress (ℕ × ℕ) → ℕ → Result Progress (ℕ × ℕ)
+judged_at read at = cond (ltb at (cursor_at read)) (Err (DuplicateLabel, at)) read
 
 -- 22 at the first label from place p on and before `end` whose name stands again, if there is one
 abbrev pub named_before : List Token → ℕ → ℕ → Result ⊤ (ℕ × ℕ)
-named_before all p end = judged_at end (first_again all p end)
+named_before all p end = judged_before end (first_again all p end)
 
 -- what was read from place p on, or 22 at the first label before its cursor whose name stands again
 abbrev pub named_once : List Token → ℕ → Result Progress (ℕ × ℕ) → Result Progress (ℕ × ℕ)
-named_once all p read = cond (ltb (first_again all p (cursor_at read)) (cursor_at read)) (Err (DuplicateLabel, first_again all p (cursor_at read))) read
+named_once all p read = judged_at read (first_again all p (cursor_at read))

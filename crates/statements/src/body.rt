@@ -10,7 +10,7 @@ ghost use Rattle.grammar.specs.Again.{pushing};
 ghost use Rattle.statements.specs.Answers.{Counting, SimpleParsed, BodyParsed, flattened};
 ghost use Rattle.statements.specs.Item.{Small};
 ghost use Rattle.names.specs.Labels.{short_body};
-ghost use Rattle.statements.specs.Label.{label_put, label_opened, takes_in, wrong_in, cursor_at, judged_at, named_before};
+ghost use Rattle.statements.specs.Label.{label_put, label_opened, takes_in, wrong_in, cursor_at, judged_before, named_before};
 ghost use Rattle.tokens.specs.Source.{all, all_from, count};
 
 use crate::item::{Progress, Statement, StatementType, parse_item, put_statement};
@@ -163,7 +163,7 @@ pub fn cursor_of(read: &Result<Progress, Refusal>) -> usize
 // A label at `at` is refused, if that is a place before `end`. A number and no Option: `first_again` (names) promises grammar's number, which is no place before the cursor
 // where no name stands again.
 fn judged(end: usize, at: usize) -> Result<(), Refusal>
-    ensures { result ≡ judged_at end at }
+    ensures { result ≡ judged_before end at }
 {
     if at < end {
         return Err(Refusal::new(Wrong::DuplicateLabel, at));

@@ -2,8 +2,8 @@
 use Rattle.lists.proofs.ArgumentLaws.{untyped_handed, untyped_answers}
 use Rattle.lists.proofs.argument.name_argument.Goals as goal
 
-pub returns-in_err-untyped_name : goal.returns-in_err-untyped_name
-returns-in_err-untyped_name c = untyped_handed c.args.source.now _ c.kind_at.ensures c.location_of-location.ensures c.is_some.ensures c.from.ensures c.untyped_name.ensures c.in_err-untyped_name.was c.from_residual.ensures.1
+pub returns-in_err-untyped_name-clause-read : goal.returns-in_err-untyped_name-clause-read
+returns-in_err-untyped_name-clause-read c = untyped_handed c.args.source.now _ c.kind_at.ensures c.location_of-location.ensures c.is_some.ensures c.from.ensures c.untyped_name.ensures c.in_err-untyped_name.was c.from_residual.ensures.1
 
-pub returns : goal.returns
-returns c = untyped_answers c.args.source.now _ c.kind_at.ensures c.location_of-location.ensures c.is_some.ensures c.from.ensures c.untyped_name.ensures c.one_token.result c.in_ok-untyped_name.was c.one_token.ensures.reading c.one_token.ensures.told
+pub returns-clause-read : goal.returns-clause-read
+returns-clause-read c = untyped_answers c.args.source.now _ c.kind_at.ensures c.location_of-location.ensures c.is_some.ensures c.from.ensures c.untyped_name.ensures c.one_token.result c.in_ok-untyped_name.was c.one_token.ensures.reading

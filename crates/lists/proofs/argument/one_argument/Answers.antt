@@ -2,5 +2,5 @@
 use Rattle.lists.proofs.ArgumentLaws.{sorted_call}
 use Rattle.lists.proofs.argument.one_argument.Goals as goal
 
-pub returns-in-Call : goal.returns-in-Call
-returns-in-Call c = sorted_call _ _ c.in-Call.is (c.call_argument.ensures _)
+pub returns-in-Call-clause-read : goal.returns-in-Call-clause-read
+returns-in-Call-clause-read c = sorted_call _ _ c.in-Call.is (c.call_argument.ensures.read _)

@@ -4,7 +4,7 @@ use Rattle.lists.proofs.ListLaws.{listing_closed, listing_handed}
 use Rattle.lists.proofs.list.parse_list.Goals as goal
 
 pub returns-in_err-one : goal.returns-in_err-one
-returns-in_err-one c = listing_handed c.loop-sort.invariant c.kind_at.ensures c.loop-sort-test.true c.one_argument.ensures c.in_err-one.was c.from_residual.ensures.1
+returns-in_err-one c = listing_handed c.loop-sort.invariant c.kind_at.ensures c.loop-sort-test.true c.one_argument.ensures.read c.in_err-one.was c.from_residual.ensures.1
 
 pub returns : goal.returns
 returns c = listing_closed c.loop-sort.invariant c.kind_at.ensures c.loop-sort-test.false
